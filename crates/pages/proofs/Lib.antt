@@ -1,0 +1,4 @@
+pub mod Entries
+pub mod Logs
+pub mod Images
+pub mod Chains
