@@ -5,6 +5,12 @@ ghost use Prim.Native.Nat.{ℕ};
 ghost use Rattle.std.specs.Finite.{nth};
 ghost use Rattle.basics.specs.Bytes.{word-at};
 
+mod trail;
+
+pub use trail::ROOM;
+pub use trail::Trail;
+pub use trail::TrailDebug;
+
 // The number in the four bytes from `at` on, most significant first, where all four are there.
 pub fn word_at(bytes: &[u8], at: usize) -> Option<u32>
     ensures { λ r. ⌜ r ≡ word-at (now (bytes .entry)) at ⌝ }

@@ -8,6 +8,7 @@ use lib.ListN.{length, getD, set}
 use Rattle.std.specs.declared.result.Result.{Result}
 use Rattle.std.specs.declared.result.Result.the-variants.{Ok, Err}
 use Rattle.pages.specs.declared.StoreFault.{StoreFault}
+use Rattle.pages.specs.declared.WriteEntry.{WriteEntry}
 
 -- a store fault holds the page number that was asked for
 abbrev pub fault-at : ℕ → StoreFault
@@ -24,11 +25,14 @@ pub record Put {S : Type 0} (pages : S → List ℕ) (wrote : S → ℕ → ℕ 
   pub refused : length (pages s) ≤ p → (r ≡ Err (fault-at p)) × (t ≡ s)
 
 -- the memory behind a store went from s to t by accepted puts of these pages and words, in this order
-abbrev pub Chain : {S : Type 0} → (S → ℕ → ℕ → S → Type 0) → S → List (ℕ × ℕ) → S → Type 0
+abbrev pub Chain : {S : Type 0} → (S → ℕ → ℕ → S → Type 0) → S → List WriteEntry → S → Type 0
 Chain wrote s [] t = t ≡ s
-Chain {S} wrote s (e ∷ es) t = (m : S) × wrote s (e .0) (e .1) m × Chain wrote m es t
+Chain {S} wrote s (e ∷ es) t = (m : S) × wrote s (e .page) (e .word) m × Chain wrote m es t
+
+abbrev pub entry : ℕ → ℕ → WriteEntry
+entry p w = record { page = p; word = w }
 
 -- words beside their page numbers, counted from p
-abbrev pub numbered : ℕ → List ℕ → List (ℕ × ℕ)
+abbrev pub numbered : ℕ → List ℕ → List WriteEntry
 numbered p [] = []
-numbered p (w ∷ ws) = (p, w) ∷ numbered (suc p) ws
+numbered p (w ∷ ws) = entry p w ∷ numbered (suc p) ws

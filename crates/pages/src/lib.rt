@@ -36,6 +36,13 @@ pub struct StoreFault {
     pub page: u32,
 }
 
+// A word for a page: an entry of a write set.
+#[derive(Clone, Copy, PartialEq, Eq, Debug)]
+pub struct WriteEntry {
+    pub page: u32,
+    pub word: u32,
+}
+
 // A page reader means a list of at most 4,096 words, its pages, numbered from 0.
 pub trait Reader {
     ghost pages: { Self → List ℕ };
