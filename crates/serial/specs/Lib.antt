@@ -1,0 +1,3 @@
+pub mod Machine
+pub mod Alone
+pub mod Laws
