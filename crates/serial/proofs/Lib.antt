@@ -1,2 +1,5 @@
 pub mod Steps
 pub mod Runs
+pub mod Table
+pub mod Conflicts
+pub mod Kept

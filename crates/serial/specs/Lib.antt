@@ -1,3 +1,6 @@
 pub mod Machine
 pub mod Alone
 pub mod Laws
+pub mod Faults
+pub mod Rules
+pub mod Book

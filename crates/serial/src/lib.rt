@@ -1,23 +1,34 @@
 // The theory of the engine: what a run alone is, what the rules are, and that they book serially. Types that the engine's
 // calls share, and no state.
 ghost use Rattle.serial.specs.Laws.{Steps-rise, Runs-determined, Reads-grow, Unread-reached, Stand-found};
-use pages::StoreFault;
-use pages::StoreFaultDebug;
-use pages::StoreFaultPartialEq;
+
+mod fault;
+
+pub use fault::Answer;
+pub use fault::AnswerDebug;
+pub use fault::AnswerPartialEq;
+pub use fault::CallFault;
+pub use fault::CallFaultDebug;
+pub use fault::CallFaultFromScript;
+pub use fault::CallFaultFromStep;
+pub use fault::CallFaultPartialEq;
+pub use fault::CallRefusal;
+pub use fault::Standing;
+pub use fault::StandingDebug;
+pub use fault::StandingPartialEq;
+pub use fault::StepFault;
+pub use fault::StepFaultDebug;
+pub use fault::StepFaultFromStore;
+pub use fault::StepFaultPartialEq;
+pub use fault::Turned;
+pub use fault::TurnedDebug;
+pub use fault::TurnedPartialEq;
 
 // A recorded store read: an entry of a read set.
 #[derive(Clone, Copy, PartialEq, Eq, Debug)]
 pub struct ReadEntry {
     pub step: usize,
     pub page: u32,
-}
-
-// A step for a page that the store does not have.
-#[derive(Clone, Copy, PartialEq, Eq, Debug)]
-pub struct StepFault {
-    pub slot: u32,
-    pub step: usize,
-    pub fault: StoreFault,
 }
 
 // The laws of a run alone. The function does nothing: its contract is what is proved.
