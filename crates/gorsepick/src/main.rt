@@ -40,7 +40,7 @@ are hexadecimal digits, two a byte, with or without spaces between them.
   image BYTES          reads a page image
   load BYTES           loads a page image into the store
 
-Each command prints its words, -> and its answer; arithmetic and script print nothing.
+Each command prints its words, an arrow and its answer; arithmetic and script print nothing.
 A page that is not there is answered by fault P, and bytes that are no image, or do not
 fit the store, by refused and the numbers of the refusal. A summary ends the output.
 

@@ -8,6 +8,7 @@ ghost use Rattle.std.specs.declared.result.Result.{Result};
 ghost use Rattle.pages.specs.Pages.{word-at, Put};
 ghost use Rattle.pages.specs.declared.StoreFault.{StoreFault};
 ghost use Rattle.gorsepick.specs.Answers.{read-answer, put-answer};
+ghost use Rattle.gorsepick.specs.Kinds.{store-pages};
 use crate::answer::Answer;
 use crate::answer::refused;
 use crate::command::Command;
@@ -89,8 +90,18 @@ impl Session {
         self.ask(heap, Request::Size)
     }
 
+    // All pages of the store.
+    pub(crate) fn pages(&mut self, heap: Global) -> Result<Vec<u32>, AllocError>
+        ensures { λ r. ⌜ made r (λ v. vec-items v ≡ store-pages (now (self .entry) .kind) (vec-items (now (self .entry) .words))) ⌝ }
+    {
+        match self.kind {
+            Kind::Log => all_pages(heap, &Log::new(self.words.as_mut_slice())),
+            Kind::Flat | Kind::Absent => all_pages(heap, &Flat::new(self.words.as_mut_slice())),
+        }
+    }
+
     // Asks the store, whichever kind it is.
-    pub(crate) fn ask(&mut self, heap: Global, request: Request) -> Result<Answer, AllocError> {
+    fn ask(&mut self, heap: Global, request: Request) -> Result<Answer, AllocError> {
         match self.kind {
             Kind::Log => answer(heap, &mut Log::new(self.words.as_mut_slice()), request),
             Kind::Flat | Kind::Absent => answer(

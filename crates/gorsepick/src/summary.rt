@@ -1,6 +1,5 @@
 // What the program says at the end, in plain words.
 use crate::answer::Answer;
-use crate::command::Request;
 use crate::failure::Failure;
 use crate::failure::FailureFromAlloc;
 use crate::failure::FailureFromIo;
@@ -33,33 +32,22 @@ impl Tally {
     }
 }
 
-pub(crate) fn print_summary(
-    rt: &LibcRuntime,
-    session: &mut Session,
-    tally: &Tally,
-) -> Result<(), Failure> {
+pub(crate) fn print_summary(rt: &LibcRuntime, session: &mut Session, tally: &Tally) -> Result<(), Failure> {
+    let pages = session.pages(rt.alloc())?;
     match session.kind {
         Kind::Absent => println!(rt, "No store was given.")?,
-        Kind::Flat => print!(rt, "The store is flat")?,
-        Kind::Log => print!(rt, "The store is a log")?,
-    }
-    if let Answer::Pages(pages) = session.ask(rt.alloc(), Request::Pages)? {
-        if session.kind != Kind::Absent {
-            print_pages(rt, pages.as_slice())?;
-        }
+        Kind::Flat => print_pages(rt, "The store is flat", pages.as_slice())?,
+        Kind::Log => print_pages(rt, "The store is a log", pages.as_slice())?,
     }
     let carried_out = tally.carried_out;
     let declined = tally.declined;
-    println!(
-        rt,
-        "Commands carried out: {carried_out}; refused or answered with a fault: {declined}."
-    )?;
+    println!(rt, "Commands carried out: {carried_out}; refused or answered with a fault: {declined}.")?;
     Ok(())
 }
 
-fn print_pages(rt: &LibcRuntime, pages: &[u32]) -> Result<(), Failure> {
+fn print_pages(rt: &LibcRuntime, heading: &str, pages: &[u32]) -> Result<(), Failure> {
     let size = pages.len();
-    print!(rt, ", of size {size}")?;
+    print!(rt, "{heading}, of size {size}")?;
     for (index, word) in pages.iter().take(MOST_SHOWN).enumerate() {
         let before = if index == 0 { ", with pages" } else { "" };
         print!(rt, "{before} {word}")?;
