@@ -6,7 +6,7 @@ use Rattle.pages.specs.Log.{log-pages}
 use Rattle.gorsepick.specs.declared.session.Kind.{Kind}
 use Rattle.gorsepick.specs.declared.session.Kind.the-variants.{Absent, Flat, Log}
 
--- the pages of a store of this kind over these words; none given is none had
+-- the pages of a store of this kind over these words; before one is given there are no words, and no pages
 abbrev pub store-pages : Kind → List ℕ → List ℕ
 store-pages Absent = flat-pages
 store-pages Flat = flat-pages

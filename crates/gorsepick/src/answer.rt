@@ -4,6 +4,7 @@ ghost use mathlib.Core.List.{_++_};
 ghost use lib.ListN.{take};
 ghost use Rattle.std.specs.Of.Vec.{vec-items};
 ghost use Rattle.std.specs.Vec.{made, listOf};
+ghost use Rattle.gorsepick.specs.Answers.{Refuses};
 use basics::Refusal;
 use std::alloc::AllocError;
 use std::alloc::Global;
@@ -38,7 +39,9 @@ impl Answer {
 }
 
 // A refusal of any layer, as an answer.
-pub(crate) fn refused<F: Refusal>(heap: Global, fault: &F) -> Result<Answer, AllocError> {
+pub(crate) fn refused<F: Refusal>(heap: Global, fault: &F) -> Result<Answer, AllocError>
+    ensures { λ r. ⌜ made r (Refuses (F·Refusal .cause (now (fault .entry))) (F·Refusal .returned (now (fault .entry)))) ⌝ }
+{
     let number = fault.number();
     let values = refusal_values(heap, fault)?;
     Ok(Answer::Refused { number, values })

@@ -5,9 +5,12 @@ ghost use lib.ListN.{length, getD};
 ghost use Rattle.std.specs.Of.Vec.{vec-items};
 ghost use Rattle.std.specs.Vec.{made};
 ghost use Rattle.std.specs.declared.result.Result.{Result};
+ghost use Rattle.pages.specs.Image.{image-fault};
+ghost use Rattle.pages.specs.Load.{ImageLoaded};
 ghost use Rattle.pages.specs.Pages.{word-at, Put};
 ghost use Rattle.pages.specs.declared.StoreFault.{StoreFault};
-ghost use Rattle.gorsepick.specs.Answers.{read-answer, put-answer};
+ghost use Rattle.pages.specs.declared.fault.ImageLoadFault.{ImageLoadFault};
+ghost use Rattle.gorsepick.specs.Answers.{read-answer, put-answer, ShowsImage, LoadAnswer, Answered};
 ghost use Rattle.gorsepick.specs.Kinds.{store-pages};
 use crate::answer::Answer;
 use crate::answer::refused;
@@ -113,7 +116,9 @@ impl Session {
     }
 }
 
-fn answer<S: Store>(heap: Global, store: &mut S, request: Request) -> Result<Answer, AllocError> {
+fn answer<S: Store>(heap: Global, store: &mut S, request: Request) -> Result<Answer, AllocError>
+    ensures { λ r. ⌜ made r (λ a. Answered (S·Reader .pages) (S·Store .wrote) request (now (store .entry)) a (now (store .exit))) ⌝ }
+{
     match request {
         Request::Size => Ok(Answer::Size(store.size())),
         Request::Get { page } => Ok(get(store, page)),
@@ -141,14 +146,18 @@ fn put<S: Store>(store: &mut S, page: u32, word: u32) -> Answer
     }
 }
 
-fn load<S: Store>(heap: Global, store: &mut S, bytes: &[u8]) -> Result<Answer, AllocError> {
+fn load<S: Store>(heap: Global, store: &mut S, bytes: &[u8]) -> Result<Answer, AllocError>
+    ensures { λ r. ⌜ made r (λ a. (o : Result (Unit {0}) ImageLoadFault) × ImageLoaded (S·Reader .pages) (S·Store .wrote) (now (bytes .entry)) (now (store .entry)) o (now (store .exit)) × LoadAnswer o a) ⌝ }
+{
     match load_image(bytes, store) {
         Ok(()) => Ok(Answer::Loaded),
         Err(fault) => refused(heap, &fault),
     }
 }
 
-fn show_image(heap: Global, bytes: &[u8]) -> Result<Answer, AllocError> {
+fn show_image(heap: Global, bytes: &[u8]) -> Result<Answer, AllocError>
+    ensures { λ r. ⌜ made r (ShowsImage (now (bytes .entry)) (image-fault (now (bytes .entry)))) ⌝ }
+{
     match Image::parse(bytes) {
         Ok(image) => Ok(Answer::Pages(all_pages(heap, &image)?)),
         Err(fault) => refused(heap, &fault),

@@ -32,7 +32,11 @@ impl Tally {
     }
 }
 
-pub(crate) fn print_summary(rt: &LibcRuntime, session: &mut Session, tally: &Tally) -> Result<(), Failure> {
+pub(crate) fn print_summary(
+    rt: &LibcRuntime,
+    session: &mut Session,
+    tally: &Tally,
+) -> Result<(), Failure> {
     let pages = session.pages(rt.alloc())?;
     match session.kind {
         Kind::Absent => println!(rt, "No store was given.")?,
@@ -41,7 +45,10 @@ pub(crate) fn print_summary(rt: &LibcRuntime, session: &mut Session, tally: &Tal
     }
     let carried_out = tally.carried_out;
     let declined = tally.declined;
-    println!(rt, "Commands carried out: {carried_out}; refused or answered with a fault: {declined}.")?;
+    println!(
+        rt,
+        "Commands carried out: {carried_out}; refused or answered with a fault: {declined}."
+    )?;
     Ok(())
 }
 
