@@ -1,0 +1,96 @@
+// Gorsepick carries out scenarios: text, a command a line, over page stores in memory.
+mod answer;
+mod command;
+mod failure;
+mod parse;
+mod session;
+mod summary;
+mod text;
+
+use answer::AnswerDisplay;
+use failure::Failure;
+use failure::FailureDisplay;
+use failure::FailureFromAlloc;
+use failure::FailureFromIo;
+use parse::parse_scenario;
+use session::Session;
+use std::env;
+use std::fs;
+use std::io;
+use summary::Tally;
+use summary::print_summary;
+
+const HELP: &str = "\
+gorsepick FILE    carries out the scenario in FILE
+gorsepick         carries out the scenario on standard input
+gorsepick --help  prints this
+
+A scenario is text, a command a line, words parted by spaces. # starts a comment,
+and blank lines are passed over. P and W are decimal numbers, 0 to 4294967295; BYTES
+are hexadecimal digits, two a byte, with or without spaces between them.
+
+  flat W...            takes these words as a flat store
+  log W...             takes these words as the memory of a log store
+  arithmetic counters  or arithmetic flags: chooses the arithmetic
+  script NAME BYTES    keeps the bytes under a name
+  get P                reads a page of the store
+  put P W              puts a word into a page of the store
+  pages                shows all pages of the store
+  words                shows the words of the memory behind the store
+  image BYTES          reads a page image
+  load BYTES           loads a page image into the store
+
+Each command prints its words, an arrow and its answer; arithmetic and script print nothing.
+A page that is not there is answered by fault P, and bytes that are no image, or do not
+fit the store, by refused and the numbers of the refusal. A summary ends the output.
+
+The whole scenario is checked before any of it is carried out. The status is 0 when it
+was carried out, and 1 when a line is wrong or the scenario cannot be read; the reason
+then stands on standard error.
+";
+
+fn main(rt: LibcRuntime) -> Result<(), Failure> {
+    let result = run(&rt);
+    if let Err(failure) = &result {
+        eprintln!(rt, "{failure}")?;
+    }
+    result
+}
+
+fn run(rt: &LibcRuntime) -> Result<(), Failure> {
+    let mut arguments = env::args(rt)?.skip(1);
+    let first = arguments.next();
+    if arguments.next().is_some() {
+        return Err(Failure::Arguments);
+    }
+    match first {
+        None => carry_out(rt, io::read_to_string(rt.alloc(), rt.stdin())),
+        Some(argument) => {
+            if argument == "--help" {
+                print!(rt, "{HELP}")?;
+                return Ok(());
+            }
+            carry_out(rt, fs::read_to_string(rt, argument.as_str()))
+        }
+    }
+}
+
+// Checks the whole scenario, then carries it out command by command.
+fn carry_out(rt: &LibcRuntime, input: io::Result<String>) -> Result<(), Failure> {
+    let text = match input {
+        Ok(text) => text,
+        Err(error) => return Err(Failure::Unread(error)),
+    };
+    let heap = rt.alloc();
+    let mut session = Session::new(heap);
+    let mut tally = Tally::new();
+    for line in parse_scenario(heap, text.as_str())? {
+        let answer = session.carry_out(heap, line.command)?;
+        tally.count(&answer);
+        if !answer.is_silent() {
+            let text = line.text;
+            println!(rt, "{text} -> {answer}")?;
+        }
+    }
+    print_summary(rt, &mut session, &tally)
+}

@@ -1,0 +1,144 @@
+// From the text of a scenario to its commands.
+ghost use mathlib.Core.Path.{_≡_};
+ghost use lib.ListN.{length};
+ghost use Rattle.std.specs.Vec.{made};
+use crate::command::Command;
+use crate::command::Line;
+use crate::command::Request;
+use crate::failure::Failure;
+use crate::failure::FailureFromRefused;
+use crate::failure::Mistake;
+use crate::failure::MistakeFromAlloc;
+use crate::failure::MistakeFromRefused;
+use crate::text::parse_bytes;
+use crate::text::parse_number;
+use crate::text::parse_numbers;
+use arithmetic::Delivered;
+use std::alloc::AllocError;
+use std::alloc::Global;
+
+// What the lines so far have given, which later lines may need.
+#[derive(Drop)]
+struct Given {
+    store: bool,
+}
+
+// The commands of a scenario, or the first line that is none. Nothing is carried out before all lines are sound.
+pub(crate) fn parse_scenario(heap: Global, text: &str) -> Result<Vec<Line>, Failure> {
+    let mut lines = Vec::new(heap);
+    let mut given = Given { store: false };
+    for (index, line) in text.lines().enumerate() {
+        match parse_line(heap, line, &mut given) {
+            Ok(Some(line)) => lines.push(line)?,
+            Ok(None) => {}
+            Err(mistake) => {
+                let number = index.saturating_add(1);
+                return Err(Failure::Line { number, mistake });
+            }
+        }
+    }
+    Ok(lines)
+}
+
+// The command of a line, or none where it is blank or a comment alone.
+fn parse_line(heap: Global, line: &str, given: &mut Given) -> Result<Option<Line>, Mistake> {
+    let code = match line.split_once('#') {
+        Some((code, _)) => code,
+        None => line,
+    };
+    let words = code.split_whitespace().collect::<Vec<&str>>(heap)?;
+    let [name, rest @ ..] = words.as_slice() else {
+        return Ok(None);
+    };
+    let command = parse_command(heap, name, rest)?;
+    if command.needs_store() && !given.store {
+        return Err(Mistake::NoStore);
+    }
+    note_given(&command, given);
+    let text = join(heap, words.as_slice())?;
+    Ok(Some(Line { text, command }))
+}
+
+fn note_given(command: &Command, given: &mut Given) {
+    if matches!(command, Command::Flat(_) | Command::Log(_)) {
+        given.store = true;
+    }
+}
+
+// The words parted by single spaces.
+fn join(heap: Global, words: &[&str]) -> Result<String, AllocError> {
+    let mut text = String::new(heap);
+    for word in words {
+        if !text.is_empty() {
+            text.push(' ')?;
+        }
+        text.push_str(word)?;
+    }
+    Ok(text)
+}
+
+fn parse_command(heap: Global, name: &str, words: &[&str]) -> Result<Command, Mistake> {
+    match name {
+        "flat" => Ok(Command::Flat(parse_numbers(heap, words)?)),
+        "log" => Ok(Command::Log(parse_numbers(heap, words)?)),
+        "arithmetic" => parse_arithmetic(heap, words),
+        "script" => parse_script(heap, words),
+        "get" => parse_get(heap, words),
+        "put" => parse_put(heap, words),
+        "pages" => {
+            expect(words, 0, "pages")?;
+            Ok(Command::Ask(Request::Pages))
+        }
+        "words" => {
+            expect(words, 0, "words")?;
+            Ok(Command::Words)
+        }
+        "image" => Ok(Command::Image(parse_bytes(heap, words)?)),
+        "load" => Ok(Command::Ask(Request::Load(parse_bytes(heap, words)?))),
+        _ => Err(Mistake::NoCommand(String::from_str(heap, name)?)),
+    }
+}
+
+// Exactly so many words follow the command's name.
+fn expect(words: &[&str], count: usize, usage: &'static str) -> Result<(), Mistake>
+    ensures { λ r. ⌜ made r (λ _. length (now (words .entry)) ≡ count) ⌝ }
+{
+    if words.len() < count {
+        return Err(Mistake::TooFew(usage));
+    }
+    if words.len() > count {
+        return Err(Mistake::TooMany(usage));
+    }
+    Ok(())
+}
+
+fn parse_arithmetic(heap: Global, words: &[&str]) -> Result<Command, Mistake> {
+    expect(words, 1, "arithmetic counters or arithmetic flags")?;
+    match words[0] {
+        "counters" => Ok(Command::Arithmetic(Delivered::Counting)),
+        "flags" => Ok(Command::Arithmetic(Delivered::Flagging)),
+        word => Err(Mistake::NoArithmetic(String::from_str(heap, word)?)),
+    }
+}
+
+fn parse_script(heap: Global, words: &[&str]) -> Result<Command, Mistake> {
+    let [name, digits @ ..] = words else {
+        return Err(Mistake::TooFew("script NAME BYTES"));
+    };
+    let name = String::from_str(heap, name)?;
+    let bytes = parse_bytes(heap, digits)?;
+    Ok(Command::Script { name, bytes })
+}
+
+fn parse_get(heap: Global, words: &[&str]) -> Result<Command, Mistake> {
+    expect(words, 1, "get P")?;
+    let page = parse_number(heap, words[0])?;
+    Ok(Command::Ask(Request::Get { page }))
+}
+
+fn parse_put(heap: Global, words: &[&str]) -> Result<Command, Mistake> {
+    expect(words, 2, "put P W")?;
+    let page = parse_number(heap, words[0])?;
+    let word = parse_number(heap, words[1])?;
+    Ok(Command::Ask(Request::Put { page, word }))
+}
