@@ -117,6 +117,17 @@ module _ (ar : Meaning) (pages : List ℕ) where
     fork-others s w d =
         row-like x x e (with-shadow e v u (Some s)) w refl refl (row-put-other e (i .sized) v u v-in u-in (Some s) w d) (λ y q. ap own-of (fork-leads (Some s) y)) (λ y rs h. h) (i .rows w)
 
+    -- a fork keeps the invariant
+    pub fork-inv : (s : Stand) → is-open e v ≡ true → is-open e u ≡ true → Fork e v u s → Inv x (with-shadow e v u (Some s))
+    fork-inv s v-open u-open f = record {
+      sized = sized-put e (i .sized) v u v-in u-in (Some s);
+      allowed = i .allowed;
+      rows = λ w. ⊎-elim
+          (λ (q : w ≡ v). subst (RowInv x (with-shadow e v u (Some s))) (sym q) (fork-row x (λ y rs d z. z) s v-open u-open f))
+          (λ (q : w ≡ v → ⊥). fork-others s w q)
+          (cases-eq w v);
+    }
+
     -- what accounting puts
     abbrev pub forked : Stand
     forked = valueOr (furthest-of (clean e u) v (row e v)) start
@@ -158,6 +169,7 @@ module _ (ar : Meaning) (pages : List ℕ) where
       pub allowance : e′ .allowance ≡ e .allowance
       pub others : (w y : ℕ) → (w ≡ v → y ≡ u → ⊥) → shadow e′ w y ≡ shadow e w y
       pub lasts : (w y : ℕ) → isSome (shadow e w y) ≡ true → isSome (shadow e′ w y) ≡ true
+      pub rows : (w : ℕ) → w ≢ v → row e′ w ≡ row e w
 
     pub accounted : Accounted (account e v u)
     accounted =
@@ -168,6 +180,7 @@ module _ (ar : Meaning) (pages : List ℕ) where
           scripts = refl;
           allowance = refl;
           others = put-others;
+          rows = λ w q. row-put-other e (i .sized) v u v-in u-in (Some forked) w q;
           lasts = λ w y a. ⊎-elim
               (λ (q : w ≡ v). ⊎-elim
               (λ (p : y ≡ u). ap isSome (subst (λ m. shadow (with-shadow e v u (Some forked)) m y ≡ Some forked) (sym q) (subst (λ m. shadow (with-shadow e v u (Some forked)) v m ≡ Some forked) (sym p) (shadow-put e (i .sized) v u v-in u-in (Some forked)))))
@@ -177,7 +190,7 @@ module _ (ar : Meaning) (pages : List ℕ) where
               (cases-eq w v);
         }))
         (λ (h : has-room e v u ≡ false).
-        subst Accounted (sym (account-stays h)) (record { leads = λ w. refl; scripts = refl; allowance = refl; others = λ w y d. refl; lasts = λ w y a. a }))
+        subst Accounted (sym (account-stays h)) (record { leads = λ w. refl; scripts = refl; allowance = refl; others = λ w y d. refl; lasts = λ w y a. a; rows = λ w q. refl }))
         (cases-bool (has-room e v u))
       where
         put-others : (w y : ℕ) → (w ≡ v → y ≡ u → ⊥) → shadow (with-shadow e v u (Some forked)) w y ≡ shadow e w y
@@ -192,14 +205,7 @@ module _ (ar : Meaning) (pages : List ℕ) where
     account-inv v-open u-open =
         ⊎-elim
         (λ (h : has-room e v u ≡ true).
-        subst (Inv x) (sym (account-forks h)) (record {
-          sized = sized-put e (i .sized) v u v-in u-in (Some forked);
-          allowed = i .allowed;
-          rows = λ w. ⊎-elim
-              (λ (q : w ≡ v). subst (RowInv x (with-shadow e v u (Some forked))) (sym q) (fork-row x (λ y rs d z. z) forked v-open u-open (forked-fork (furthest-of (clean e u) v (row e v)) refl h)))
-              (λ (q : w ≡ v → ⊥). fork-others forked w q)
-              (cases-eq w v);
-        }))
+        subst (Inv x) (sym (account-forks h)) (fork-inv forked v-open u-open (forked-fork (furthest-of (clean e u) v (row e v)) refl h)))
         (λ (h : has-room e v u ≡ false). subst (Inv x) (sym (account-stays h)) i)
         (cases-bool (has-room e v u))
 

@@ -3,3 +3,4 @@ pub mod Runs
 pub mod Table
 pub mod Conflicts
 pub mod Kept
+pub mod Turns
