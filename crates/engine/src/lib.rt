@@ -1,0 +1,2 @@
+// The engine: shadows, and scripts that they run.
+mod shadow;
