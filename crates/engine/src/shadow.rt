@@ -242,4 +242,42 @@ impl Shadow {
         self.step += 1;
         Ok(())
     }
+
+    // Takes one step over the reader's pages. One for a page that the reader does not have leaves the shadow as it was.
+    pub(crate) fn take_step<R: Reader, A: Arithmetic>(&mut self, step: &Step, reader: &R, arithmetic: &A) -> Result<(), StoreFault>
+        requires { ⌜ Room (stand-of (now self)) ⌝ }
+        ensures { λ r. ⌜ Took (now (self .entry)) (takes (A·Arithmetic .meaning (now (arithmetic .entry))) (R·Reader .pages (now (reader .entry))) (now (step .entry)) (stand-of (now (self .entry)))) r (now (self .exit)) ⌝ }
+    {
+        let operand = step.operand;
+        match step.action {
+            Action::Read(a) => self.take_read(a, operand, reader),
+            Action::ReadIndexed(a, b) => {
+                let page = self.indexed_page(operand, b);
+                self.take_read(a, page, reader)
+            }
+            Action::Write(a) => {
+                let word = self.register(a);
+                self.take_write(operand, word, reader)
+            }
+            Action::WriteIndexed(a, b) => {
+                let page = self.indexed_page(operand, b);
+                let word = self.register(a);
+                self.take_write(page, word, reader)
+            }
+            Action::Set(a) => {
+                self.take_word(a, operand);
+                Ok(())
+            }
+            Action::Combine(operation, a, b) => {
+                let word = arithmetic.combine(operation, self.register(a), self.register(b));
+                self.take_word(a, word);
+                Ok(())
+            }
+            Action::Skip(a, b) => {
+                let count = if self.register(a) == self.register(b) { operand } else { 0 };
+                self.skip(count);
+                Ok(())
+            }
+        }
+    }
 }
