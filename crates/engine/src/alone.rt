@@ -45,19 +45,31 @@ pub impl From<ScriptFault> for AloneFault as AloneFromScript {
 }
 
 // Takes one step; a fault is told with the step's number.
-fn advance<R: Reader, A: Arithmetic>(shadow: &mut Shadow, step: &Step, reader: &R, arithmetic: &A) -> Result<(), AloneFault>
+fn advance<R: Reader, A: Arithmetic>(
+    shadow: &mut Shadow,
+    step: &Step,
+    reader: &R,
+    arithmetic: &A,
+) -> Result<(), AloneFault>
     requires { ⌜ Room (stand-of (now shadow)) ⌝ }
     ensures { λ r. ⌜ Advanced (now (shadow .entry)) (takes (A·Arithmetic .meaning (now (arithmetic .entry))) (R·Reader .pages (now (reader .entry))) (now (step .entry)) (stand-of (now (shadow .entry)))) r (now (shadow .exit)) ⌝ }
 {
     let number = shadow.step();
     match shadow.take_step(step, reader, arithmetic) {
         Ok(()) => Ok(()),
-        Err(fault) => Err(AloneFault::Step { step: number, fault }),
+        Err(fault) => Err(AloneFault::Step {
+            step: number,
+            fault,
+        }),
     }
 }
 
 // Runs a script from step 0 to its end. No page changes.
-fn run_to_end<R: Reader, A: Arithmetic>(script: &Script, reader: &R, arithmetic: &A) -> Result<Shadow, AloneFault>
+fn run_to_end<R: Reader, A: Arithmetic>(
+    script: &Script,
+    reader: &R,
+    arithmetic: &A,
+) -> Result<Shadow, AloneFault>
     requires ends { ⌜ Ends-at-end (steps-of (now script)) ⌝ }
     requires few { ⌜ length (steps-of (now script)) ≤ 16 ⌝ }
     ensures { λ r. ⌜ Ended (A·Arithmetic .meaning (now (arithmetic .entry))) (steps-of (now (script .entry))) (R·Reader .pages (now (reader .entry))) r ⌝ }
@@ -91,7 +103,11 @@ pub(crate) fn put_all<S: Store>(own: &[WriteEntry], store: &mut S)
 
 // Runs a script alone over the store, and puts what it has written. Answers register 0 and the number of pages put. A
 // fault leaves the store as it was.
-pub fn run_alone<S: Store, A: Arithmetic>(bytes: &[u8], store: &mut S, arithmetic: &A) -> Result<(u32, usize), AloneFault>
+pub fn run_alone<S: Store, A: Arithmetic>(
+    bytes: &[u8],
+    store: &mut S,
+    arithmetic: &A,
+) -> Result<(u32, usize), AloneFault>
     ensures { λ r. ⌜ RanAlone (S·Reader .pages) (S·Store .wrote) (A·Arithmetic .meaning (now (arithmetic .entry))) (now (store .entry)) (decoded (now (bytes .entry))) r (now (store .exit)) ⌝ }
 {
     let script = decode(bytes)?;
