@@ -1,11 +1,11 @@
 -- How the steps of a run, taken one by one, come to what the run alone comes to. Assumes nothing.
 use mathlib.Core.Path.{_≡_, refl, sym, ap, subst, _∙_}
-use mathlib.Core.Bool.{Bool, true, false}
 use mathlib.Core.List.{List, [], _∷_}
-use Prim.Native.Nat.{ℕ, zero, suc, _+_, _≤_, _<_}
+use Prim.Native.Nat.{ℕ, zero, suc, _≤_, _<_}
 use native.Mathlib.Omega.{arith}
 use lib.ListN.{length}
 use Rattle.std.specs.Finite.{nth}
+use Rattle.std.specs.declared.option.Option.{Option}
 use Rattle.std.specs.declared.option.Option.the-variants.{Some, None}
 use Rattle.std.specs.declared.result.Result.the-variants.{Ok, Err}
 use Rattle.std.proofs.iter.runs.Lists.{nth-within}
@@ -15,7 +15,7 @@ use Rattle.script.specs.declared.Step.{Step}
 use Rattle.script.specs.Laws.{Ends-at-end}
 use Rattle.serial.specs.Machine.{Meaning, Steps, Stand, start, Taken, moved, off-pages, takes}
 use Rattle.serial.specs.Alone.{there, fault, try-step, is-at, stand-at, whole-run}
-use Rattle.serial.specs.Laws.{Next, Leads, here, more}
+use Rattle.serial.specs.Laws.{Next, Leads}
 use Rattle.serial.proofs.Runs.{leads-ends, reached-stand, stops-at}
 use Rattle.engine.specs.declared.shadow.Shadow.{Shadow}
 use Rattle.engine.specs.declared.alone.AloneFault.{AloneFault}
@@ -28,6 +28,10 @@ nth-none : (ss : Steps) (i : ℕ) → nth ss i ≡ None → length ss ≤ i
 nth-none [] i e = omega arith
 nth-none (s ∷ ss) zero e = let z : _≡_ {A = ℕ} 0 1 = cc in absurd (omega arith)
 nth-none (s ∷ ss) (suc i) e = let rest = nth-none ss i e in omega arith
+
+-- what a look at step m told, where m is n
+pub looked-up : (ss : Steps) (m n : ℕ) (o : Option Step) → m ≡ n → o ≡ nth ss m → nth ss n ≡ o
+looked-up ss m n o e h = ap (nth ss) (sym e) ∙ sym h
 
 -- what an answer tells of the step taken
 pub advanced-ok : (s t : Shadow) (k : Taken) → Advanced s k (Ok tt) t → k ≡ moved (stand-of t)

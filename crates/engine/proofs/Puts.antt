@@ -14,8 +14,11 @@ put-all-push [] e pages = refl
 put-all-push (x ∷ es) e pages = put-all-push es e (set pages (x .page) (x .word))
 
 module _ (es : List WriteEntry) (i : ℕ) (low : i < length es) where
-  pub put-all-more : (pages : List ℕ) → put-all (take (i + 1) es) pages ≡ set (put-all (take i es) pages) (getD es i (entry 0 0) .page) (getD es i (entry 0 0) .word)
-  put-all-more pages = ap (λ xs. put-all xs pages) (take-more es i (entry 0 0) low) ∙ put-all-push (take i es) (getD es i (entry 0 0)) pages
+  pub puts-more : (before so after : List ℕ) → so ≡ put-all (take i es) before → after ≡ set so (getD es i (entry 0 0) .page) (getD es i (entry 0 0) .word) → after ≡ put-all (take (i + 1) es) before
+  puts-more before so after h k =
+      let e = getD es i (entry 0 0) in
+      k ∙ ap (λ ps. set ps (e .page) (e .word)) h
+      ∙ sym (ap (λ xs. put-all xs before) (take-more es i (entry 0 0) low) ∙ put-all-push (take i es) e before)
 
   pub chain-more : {S : Type 0} (wrote : S → ℕ → ℕ → S → Type 0) (s m t : S) → Chain wrote s (take i es) m → wrote m (getD es i (entry 0 0) .page) (getD es i (entry 0 0) .word) t → Chain wrote s (take (i + 1) es) t
   chain-more wrote s m t c h =

@@ -1,8 +1,8 @@
 -- What holds of every stand that a run reaches. Assumes nothing.
-use mathlib.Core.Path.{_≡_, refl, sym, ap, subst, _∙_}
-use mathlib.Core.Bool.{Bool, true, false, cond}
+use mathlib.Core.Path.{_≡_, refl, sym, subst, _∙_}
+use mathlib.Core.Bool.{true, false}
 use mathlib.Core.Logic.{⊎-elim}
-use mathlib.Core.List.{List, [], _∷_, _++_}
+use mathlib.Core.List.{List, [], _∷_}
 use Prim.Native.Nat.{ℕ, zero, suc, _+_, _≤_, _<_}
 use native.Mathlib.Omega.{arith}
 use lib.Dec.{eqb, ltb}
@@ -15,7 +15,7 @@ use Rattle.pages.specs.Pages.{entry}
 use Rattle.pages.specs.declared.WriteEntry.{WriteEntry}
 use Rattle.script.specs.declared.Register.{Register}
 use Rattle.serial.specs.declared.ReadEntry.{ReadEntry}
-use Rattle.serial.specs.Machine.{Meaning, Steps, Stand, start, written, write, Effect, reading, writing, setting, leaving, effect, with-register, recorded, with-write, Taken, moved, off-pages, take-read, take-effect}
+use Rattle.serial.specs.Machine.{Meaning, Steps, Stand, start, written, write, Effect, reading, writing, setting, leaving, effect, with-register, recorded, with-write, moved, off-pages, take-read, take-effect}
 use Rattle.serial.specs.Laws.{Next, Leads, here, more}
 use Rattle.serial.proofs.Runs.{stepped}
 use Rattle.engine.specs.View.{Room}

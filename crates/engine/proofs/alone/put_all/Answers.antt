@@ -1,13 +1,12 @@
 use mathlib.Core.Path.{_≡_, sym, ap, subst, _∙_}
 use Prim.Native.Nat.{_<_}
-use native.Mathlib.Omega.{arith}
-use lib.ListN.{length, getD, set, take}
+use lib.ListN.{length, getD, take}
 use Rattle.std.proofs.shelf.Lists.{take-all}
 use Rattle.pages.specs.Pages.{Chain, entry}
 use Rattle.serial.specs.Alone.{put-all}
 use Rattle.serial.proofs.Runs.{length-put-all}
 use Rattle.engine.proofs.Stands.{inside-at}
-use Rattle.engine.proofs.Puts.{put-all-more, chain-more}
+use Rattle.engine.proofs.Puts.{puts-more, chain-more}
 use Rattle.engine.proofs.alone.put_all.Needs as need
 
 pub put-entry-requires : need.put-entry-requires
@@ -23,9 +22,8 @@ pub loop-entry-again : need.loop-entry-again
 loop-entry-again g c =
     let own = c .args .own .now in
     let i = c .loop-entry .entry-index in
-    let low = c .loop-entry-test .taken in
-    let e = getD own i (entry 0 0) in (
-      c .put-entry .ensures .pages ∙ ap (λ ps. set ps (e .page) (e .word)) (c .loop-entry .inv .0) ∙ sym (put-all-more own i low (g .S·Reader .pages (c .args .store .now))),
+    let low = c .loop-entry-test .taken in (
+      puts-more own i low (g .S·Reader .pages (c .args .store .now)) (g .S·Reader .pages (c .loop-entry .store)) (g .S·Reader .pages (c .put-entry .last .store)) (c .loop-entry .inv .0) (c .put-entry .ensures .pages),
       chain-more own i low (g .S·Store .wrote) (c .args .store .now) (c .loop-entry .store) (c .put-entry .last .store) (c .loop-entry .inv .1) (c .put-entry .ensures .wrote),
     )
 
