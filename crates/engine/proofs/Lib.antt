@@ -1,0 +1,4 @@
+pub mod Lists
+pub mod Stands
+pub mod Puts
+pub mod Ends

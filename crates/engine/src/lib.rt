@@ -1,0 +1,9 @@
+// The engine: shadows, and scripts that they run.
+mod alone;
+mod shadow;
+
+pub use alone::AloneFault;
+pub use alone::AloneFaultDebug;
+pub use alone::AloneFaultPartialEq;
+pub use alone::AloneFromScript;
+pub use alone::run_alone;
