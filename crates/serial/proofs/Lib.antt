@@ -4,3 +4,6 @@ pub mod Table
 pub mod Conflicts
 pub mod Kept
 pub mod Turns
+pub mod Commits
+pub mod Calls
+pub mod Booking

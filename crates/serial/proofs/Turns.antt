@@ -11,13 +11,13 @@ use Rattle.std.specs.Finite.{nth}
 use Rattle.std.specs.Options.{isSome, valueOr}
 use Rattle.std.specs.declared.option.Option.{Option}
 use Rattle.std.specs.declared.option.Option.the-variants.{Some, None}
-use Rattle.std.proofs.shelf.Tests.{cases-bool, cases-eq, cond-true, cond-false, and-parts, and-from, and-cases, or-cases, or-parts, or-left, or-from, not-true, not-false, not-from-false, not-from-true, eq-eqb, ne-eqb, eqb-true, eqb-false, leb-true, leb-false, true≢false, both-ways}
+use Rattle.std.proofs.shelf.Tests.{cases-bool, cases-eq, cond-true, cond-false, cond-both, and-parts, and-from, and-cases, or-cases, or-parts, or-left, or-from, not-true, not-false, not-from-false, not-from-true, eq-eqb, ne-eqb, eqb-true, eqb-false, leb-true, leb-false, true≢false, both-ways}
 use Rattle.script.specs.Laws.{Ends-at-end}
 use Rattle.serial.specs.declared.ReadEntry.{ReadEntry}
 use Rattle.serial.specs.Machine.{Meaning, Steps, Stand, start, moved, store-read, write-of, has-read, has-written, has-read-any}
 use Rattle.serial.specs.Alone.{next, on-list}
 use Rattle.serial.specs.Laws.{Next, Leads, here, more}
-use Rattle.serial.specs.Rules.{Row, Engine, slots, script-of, is-open, row, shadow, with-shadow, own-of, reads-of, place-of, lead-writes, count, has-room, account, read-conflict, account-read, account-reads, write-conflict, account-write, account-writes, before-step, after-step, lead-moves, waits}
+use Rattle.serial.specs.Rules.{Row, Engine, slots, script-of, is-open, row, shadow, with-shadow, own-of, reads-of, place-of, lead-writes, count, has-room, account, read-conflict, account-read, account-reads, write-conflict, account-write, account-writes, before-step, after-step, lead-moves, shadow-moves, waits}
 use Rattle.serial.proofs.Steps.{noted, named, Moves}
 use Rattle.serial.proofs.Runs.{stepped, next-rises, next-same, leads-rises, leads-snoc, reached-later, read-any-append}
 use Rattle.serial.proofs.Table.{none-is-some, some-is, none-is, some-or-none, there-within, Sized, shadow-within, row-put, row-put-other, shadow-put, shadow-put-place, shadow-put-row, sized-put, count-set}
@@ -481,3 +481,33 @@ module _ (ar : Meaning) (pages : List ℕ) where
       not-past : (l : Stand) → Leads ar sc pages s l → s .step < l .step → s′ .step ≤ l .step
       not-past l here below = absurd (omega arith)
       not-past l (more {t = m} h k) below = let same : m ≡ s′ = next-same ar sc pages s m s′ h step in let z : m .step ≡ s′ .step = ap (λ a. a .step) same in let q = leads-rises ar sc pages k in omega arith
+
+-- accounting and moving leave scripts as they are
+account-scripts : (e : Engine) (t u : ℕ) → account e t u .scripts ≡ e .scripts
+account-scripts e t u = cond-both (has-room e t u) _ e (λ z. z .scripts ≡ e .scripts) (λ h. refl) (λ h. refl)
+
+account-reads-scripts : (us : List ℕ) (e : Engine) (t p : ℕ) → account-reads e t p us .scripts ≡ e .scripts
+account-reads-scripts [] e t p = refl
+account-reads-scripts (u ∷ us) e t p =
+    account-reads-scripts us (account-read e t p u) t p
+    ∙ cond-both (read-conflict e t p u) (account e t u) e (λ z. z .scripts ≡ e .scripts) (λ h. account-scripts e t u) (λ h. refl)
+
+account-writes-scripts : (vs : List ℕ) (e : Engine) (t p : ℕ) → account-writes e t p vs .scripts ≡ e .scripts
+account-writes-scripts [] e t p = refl
+account-writes-scripts (v ∷ vs) e t p =
+    account-writes-scripts vs (account-write e t p v) t p
+    ∙ cond-both (write-conflict e t p v) (account e v t) e (λ z. z .scripts ≡ e .scripts) (λ h. account-scripts e v t) (λ h. refl)
+
+before-scripts : (e : Engine) (t : ℕ) (o : Option ℕ) → before-step e t o .scripts ≡ e .scripts
+before-scripts e t None = refl
+before-scripts e t (Some p) = account-reads-scripts slots e t p
+
+after-scripts : (e : Engine) (t : ℕ) (o : Option ℕ) → after-step e t o .scripts ≡ e .scripts
+after-scripts e t None = refl
+after-scripts e t (Some p) = account-writes-scripts slots e t p
+
+pub moves-scripts : (e : Engine) (t u : ℕ) (sc : Steps) (s to : Stand) → shadow-moves e t u sc s to .scripts ≡ e .scripts
+moves-scripts e t u sc s to =
+    cond-both (eqb u t) (lead-moves e t sc s to) (with-shadow e t u (Some to)) (λ z. z .scripts ≡ e .scripts)
+    (λ h. after-scripts _ t (write-of (nth sc (s .step)) s) ∙ before-scripts e t (store-read (nth sc (s .step)) s))
+    (λ h. refl)
