@@ -141,20 +141,21 @@ module _ (ar : Meaning) where
   waiting-waits s v t sc r v-in t-in ne script here-now h =
       let e = s .engine in
       let to-shadow : does ar (turn v t) s .1 ≡ turn-standing ar s v t sc r (standing e v t sc r) .1 =
-          ap (λ d. d .1) (cond-true (leb v 7) (in-range s t (turn-open ar s v t (script-of e v))) _ (below v v-in)
-          ∙ cond-true (leb t 7) (turn-open ar s v t (script-of e v)) _ (below t t-in)
-          ∙ ap (turn-open ar s v t) script ∙ ap (turn-shadow ar s v t sc) here-now) in
+      ap (λ d. d .1) (cond-true (leb v 7) (in-range s t (turn-open ar s v t (script-of e v))) _ (below v v-in)
+      ∙ cond-true (leb t 7) (turn-open ar s v t (script-of e v)) _ (below t t-in)
+      ∙ ap (turn-open ar s v t) script ∙ ap (turn-shadow ar s v t sc) here-now) in
       let is-standing : standing e v t sc r ≡ cond (waits e v t sc r) Halted Ready = cond-false (eqb t v) (cond (leb (length sc) (r .step)) AtEnd Ready) (cond (waits e v t sc r) Halted Ready) (ne-eqb t v ne) in
       ⊎-elim
       (λ (w : waits e v t sc r ≡ true). w)
       (λ (w : waits e v t sc r ≡ false).
-        let stands : standing e v t sc r ≡ Ready = is-standing ∙ ap (λ b. cond b Halted Ready) w in
-        let answer : turn-step s v t sc r (next ar sc (s .pages) r) .1 ≡ Took Waiting = ap (λ x. turn-standing ar s v t sc r x .1) (sym stands) ∙ sym to-shadow ∙ h in
-        absurd (never s v t sc r (next ar sc (s .pages) r) answer))
+      let stands : standing e v t sc r ≡ Ready = is-standing ∙ ap (λ b. cond b Halted Ready) w in
+      let answer : turn-step s v t sc r (next ar sc (s .pages) r) .1 ≡ Took Waiting = ap (λ x. turn-standing ar s v t sc r x .1) (sym stands) ∙ sym to-shadow ∙ h in
+      absurd (never s v t sc r (next ar sc (s .pages) r) answer))
       (cases-bool (waits e v t sc r))
     where
       below : (n : ℕ) → n < 8 → leb n 7 ≡ true
       below n l = le-leb n 7 (omega arith)
+
       never : (s : State) (v t : ℕ) (sc : Steps) (r : Stand) (o : Option Taken) → turn-step s v t sc r o .1 ≡ Took Waiting → ⊥
       never s v t sc r None h = let z : _≡_ {A = ℕ} 0 1 = cc in omega arith
       never s v t sc r (Some (off-pages p)) h = let z : _≡_ {A = ℕ} 0 1 = cc in omega arith
@@ -162,7 +163,7 @@ module _ (ar : Meaning) where
 
   -- a commit under allowance 8 rescues what it spoils
   rescued : (s : State) (t : ℕ) (last : Stand) → Good ar s → s .engine .allowance ≡ 8 → shadow (s .engine) t t ≡ Some last
-    → Rescued ar s t (last .own) (record { engine = committed (s .engine) t (last .own); pages = put-all (last .own) (s .pages) })
+      → Rescued ar s t (last .own) (record { engine = committed (s .engine) t (last .own); pages = put-all (last .own) (s .pages) })
   rescued s t last g k t-lead v sc lead first ne script v-lead found before =
       let e = s .engine in
       let own = last .own in
@@ -176,24 +177,27 @@ module _ (ar : Meaning) where
       let t-writes : lead-writes e t ≡ own = ap own-of t-lead in
       let r = some-is (shadow e v t) (g .rows v .covered k t lead t-ne v-lead refl (ap (has-read-any (lead .reads)) t-writes ∙ lead-read)) in
       let clean : has-read-any (r .0 .reads) own ≡ false = sym (ap (has-read-any (r .0 .reads)) t-writes) ∙ g .rows v .apart t (r .0) t-ne (r .1) refl in
-      let r-reached = g .rows v .reached sc t (r .0) script (r .1) in
-      (r .0, r .1, λ waiting.
-        let w = waiting-waits s v t sc (r .0) v-in t-in t-ne script (r .1) waiting in
-        let at-first : r .0 ≡ first = ⊎-elim
+      let r-reached = g .rows v .reached sc t (r .0) script (r .1) in (
+        r .0,
+        r .1,
+        λ waiting.
+            let w = waiting-waits s v t sc (r .0) v-in t-in t-ne script (r .1) waiting in
+            let at-first : r .0 ≡ first = ⊎-elim
             (λ (level : leb (place-of (shadow e v v)) (r .0 .step) ≡ true).
-              -- level with the lead it would be the lead, which has read what it has not
-              let high : lead .step ≤ r .0 .step = leb-true (lead .step) (r .0 .step) (ap (λ o. leb (place-of o) (r .0 .step)) (sym v-lead) ∙ level) in
-              let low = g .rows v .behind t (r .0) lead (r .1) v-lead in
-              let same : r .0 ≡ lead = reached-same ar sc (s .pages) r-reached lead-reached (omega arith) in
-              absurd (both-ways (has-read-any (r .0 .reads) own) clean (ap (λ x. has-read-any (x .reads) own) same ∙ lead-read)))
+            -- level with the lead it would be the lead, which has read what it has not
+            let high : lead .step ≤ r .0 .step = leb-true (lead .step) (r .0 .step) (ap (λ o. leb (place-of o) (r .0 .step)) (sym v-lead) ∙ level) in
+            let low = g .rows v .behind t (r .0) lead (r .1) v-lead in
+            let same : r .0 ≡ lead = reached-same ar sc (s .pages) r-reached lead-reached (omega arith) in
+            absurd (both-ways (has-read-any (r .0 .reads) own) clean (ap (λ x. has-read-any (x .reads) own) same ∙ lead-read)))
             (λ (blocked : on-list (lead-writes e t) (store-read (nth sc (r .0 .step)) (r .0)) ≡ true).
-              let at-read : before-read-of own sc (r .0) ≡ true = ap (λ es. on-list es (store-read (nth sc (r .0 .step)) (r .0))) (sym t-writes) ∙ blocked in
-              reached-same ar sc (s .pages) r-reached (f .leads) (level sc (r .0) first r-reached f clean at-read))
+            let at-read : before-read-of own sc (r .0) ≡ true = ap (λ es. on-list es (store-read (nth sc (r .0 .step)) (r .0))) (sym t-writes) ∙ blocked in
+            reached-same ar sc (s .pages) r-reached (f .leads) (level sc (r .0) first r-reached f clean at-read))
             (or-cases (leb (place-of (shadow e v v)) (r .0 .step)) (on-list (lead-writes e t) (store-read (nth sc (r .0 .step)) (r .0))) w) in
-        let n = new-lead ar (s .pages) e g t t-in own v sc lead ne script v-lead in
-        let high : first .step ≤ n .0 .step = subst (λ x. x .step ≤ n .0 .step) at-first (n .1 .most t (r .0) (r .1) clean) in
-        let low : n .0 .step ≤ first .step = not-past sc (n .0) first (n .1 .reached) (f .leads) (f .passes) (n .1 .unread) in
-        n .1 .leads ∙ ap Some (reached-same ar sc (s .pages) (n .1 .reached) (f .leads) (omega arith)))
+            let n = new-lead ar (s .pages) e g t t-in own v sc lead ne script v-lead in
+            let high : first .step ≤ n .0 .step = subst (λ x. x .step ≤ n .0 .step) at-first (n .1 .most t (r .0) (r .1) clean) in
+            let low : n .0 .step ≤ first .step = not-past sc (n .0) first (n .1 .reached) (f .leads) (f .passes) (n .1 .unread) in
+            n .1 .leads ∙ ap Some (reached-same ar sc (s .pages) (n .1 .reached) (f .leads) (omega arith)),
+      )
     where
       -- what has read nothing replaced is not past the first read of a replaced page
       not-past : (sc : Steps) (x first : Stand) → Leads ar sc (s .pages) start x → Leads ar sc (s .pages) start first → before-read-of (last .own) sc first ≡ true → has-read-any (x .reads) (last .own) ≡ false → x .step ≤ first .step
@@ -202,6 +206,7 @@ module _ (ar : Meaning) where
           (λ (l : first .step < x .step). absurd (both-ways (has-read-any (x .reads) (last .own)) unread (past-read ar sc (s .pages) (last .own) (reached-later ar sc (s .pages) b a (omega arith)) reads l)))
           (λ (l : x .step ≤ first .step). l)
           (cases-lt (first .step) (x .step))
+
       -- what stands before such a read is not before the first one
       level : (sc : Steps) (r first : Stand) → Leads ar sc (s .pages) start r → First ar sc (s .pages) (before-read-of (last .own) sc) start first → has-read-any (r .reads) (last .own) ≡ false → before-read-of (last .own) sc r ≡ true → r .step ≡ first .step
       level sc r first a f unread reads =
@@ -249,8 +254,8 @@ module _ (ar : Meaning) where
   good-stands s g t u x h =
       ⊎-elim
       (λ (o : (sc : Steps) × (script-of (s .engine) t ≡ Some sc)).
-        let l = g .rows t .reached (o .0) u x (o .1) h in
-        (o .0, o .1, reached-stand ar (o .0) (s .pages) x l (leads-ends ar (o .0) (s .pages) (g .rows t .ends (o .0) (o .1)) (omega arith) l)))
+      let l = g .rows t .reached (o .0) u x (o .1) h in
+      (o .0, o .1, reached-stand ar (o .0) (s .pages) x l (leads-ends ar (o .0) (s .pages) (g .rows t .ends (o .0) (o .1)) (omega arith) l)))
       (λ (o : script-of (s .engine) t ≡ None). none-is-some x (sym (g .rows t .bare o u) ∙ h))
       (some-or-none (script-of (s .engine) t))
 

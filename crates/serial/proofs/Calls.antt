@@ -37,7 +37,7 @@ nothing-at (suc n) zero = refl
 nothing-at (suc n) (suc u) = nothing-at n u
 
 -- a row with no shadow counts none
-count-none : (cs : Row) → ((u : ℕ) → getD cs u None ≡ None) → count cs ≡ 0
+pub count-none : (cs : Row) → ((u : ℕ) → getD cs u None ≡ None) → count cs ≡ 0
 count-none [] h = refl
 count-none (None ∷ cs) h = count-none cs (λ u. h (suc u))
 count-none (Some s ∷ cs) h = none-is-some s (sym (h 0))
@@ -72,10 +72,12 @@ module _ (ar : Meaning) where
       blank-at zero v u = refl
       blank-at (suc n) zero u = nothing-at 8 u
       blank-at (suc n) (suc v) u = blank-at n v u
+
       long-at : (n t : ℕ) → t < n → length (getD (replicate n no-shadows) t []) ≡ 8
       long-at zero t l = absurd (omega arith)
       long-at (suc n) zero l = refl
       long-at (suc n) (suc t) l = long-at n t (omega arith)
+
       rows-of : (t : ℕ) → t < 8 → length (row fresh-engine t) ≡ 8
       rows-of t l = long-at 8 t l
 
@@ -84,7 +86,7 @@ module _ (ar : Meaning) where
   kept-range s t rest g h = cond-both (leb t 7) rest _ (λ d. Good (d .0)) (λ e. let l = leb-true t 7 e in h (omega arith)) (λ e. g)
 
   -- set allowance
-  none-open : (n : ℕ) (scripts : List (Option Steps)) → first-open n scripts ≡ None → (t : ℕ) → getD scripts t None ≡ None
+  pub none-open : (n : ℕ) (scripts : List (Option Steps)) → first-open n scripts ≡ None → (t : ℕ) → getD scripts t None ≡ None
   none-open n [] h t = refl
   none-open n (None ∷ xs) h zero = refl
   none-open n (None ∷ xs) h (suc t) = none-open (suc n) xs h t
@@ -183,9 +185,9 @@ module _ (ar : Meaning) where
   begins-good : (s : State) (t : ℕ) (bytes : List ℕ) → Good s → Good (begins s t bytes .0)
   begins-good s t bytes g =
       kept-range s t _ g (λ t-in.
-        cond-both (is-open (s .engine) t) _ (begin-with s t (decoded bytes)) (λ d. Good (d .0))
-        (λ e. g)
-        (λ e. begin-good s t g t-in (none-is (script-of (s .engine) t) e) bytes (decoded bytes) refl))
+      cond-both (is-open (s .engine) t) _ (begin-with s t (decoded bytes)) (λ d. Good (d .0))
+      (λ e. g)
+      (λ e. begin-good s t g t-in (none-is (script-of (s .engine) t) e) bytes (decoded bytes) refl))
 
   -- turn
   turn-step-good : (s : State) (t u : ℕ) (sc : Steps) (at : Stand) → Good s → script-of (s .engine) t ≡ Some sc → shadow (s .engine) t u ≡ Some at → ((u ≡ t → ⊥) → waits (s .engine) t u sc at ≡ false) → (o : Option Taken) → next ar sc (s .pages) at ≡ o → Good (turn-step s t u sc at o .0)
@@ -194,13 +196,13 @@ module _ (ar : Meaning) where
   turn-step-good s t u sc at g script here-now free (Some (moved to)) h =
       ⊎-elim
       (λ (q : eqb u t ≡ true).
-        let same = eqb-true u t q in
-        subst (Inv ar (s .pages) no-exempt) (sym (cond-true (eqb u t) (lead-moves (s .engine) t sc at to) (with-shadow (s .engine) t u (Some to)) q))
-        (lead-moves-inv ar (s .pages) (s .engine) g t sc at to script (ap (shadow (s .engine) t) (sym same) ∙ here-now) h))
+      let same = eqb-true u t q in
+      subst (Inv ar (s .pages) no-exempt) (sym (cond-true (eqb u t) (lead-moves (s .engine) t sc at to) (with-shadow (s .engine) t u (Some to)) q))
+      (lead-moves-inv ar (s .pages) (s .engine) g t sc at to script (ap (shadow (s .engine) t) (sym same) ∙ here-now) h))
       (λ (q : eqb u t ≡ false).
-        let ne = eqb-false u t q in
-        subst (Inv ar (s .pages) no-exempt) (sym (cond-false (eqb u t) (lead-moves (s .engine) t sc at to) (with-shadow (s .engine) t u (Some to)) q))
-        (shadow-moves-inv ar (s .pages) (s .engine) g t u sc at to ne script here-now (free ne) h))
+      let ne = eqb-false u t q in
+      subst (Inv ar (s .pages) no-exempt) (sym (cond-false (eqb u t) (lead-moves (s .engine) t sc at to) (with-shadow (s .engine) t u (Some to)) q))
+      (shadow-moves-inv ar (s .pages) (s .engine) g t u sc at to ne script here-now (free ne) h))
       (cases-bool (eqb u t))
 
   halts : (b : Bool) (x y : Standing) → cond b Halted Ready ≡ Ready → b ≡ false

@@ -70,9 +70,9 @@ module _ (own : List WriteEntry) where
       by (Some l) e =
           cond-both (spoils own (getD r v None)) (set (remaining own r) v (Some (valueOr (furthest-of any-shadow v (remaining own r)) start))) (remaining own r) (λ cs. count cs ≤ count r)
           (λ h.
-            let one = count-add (remaining own r) v (valueOr (furthest-of any-shadow v (remaining own r)) start) in
-            let fewer = count-dropped own r v l e (sym (ap (spoils own) e) ∙ h) in
-            omega arith)
+          let one = count-add (remaining own r) v (valueOr (furthest-of any-shadow v (remaining own r)) start) in
+          let fewer = count-dropped own r v l e (sym (ap (spoils own) e) ∙ h) in
+          omega arith)
           (λ h. count-remaining own r)
 
   -- a place of a renewed row other than the leading one
@@ -120,7 +120,7 @@ module _ (e : Engine) (z : Sized e) (t : ℕ) (t-in : t < 8) (own : List WriteEn
       ∙ remaining-at own (row e v) v ∙ ap (kept own) h ∙ kept-unread own l unread
 
   pub lead-renewed : (v : ℕ) (l : Stand) → v ≢ t → shadow e v v ≡ Some l → has-read-any (l .reads) own ≡ true
-    → shadow (committed e t own) v v ≡ Some (valueOr (furthest-of any-shadow v (remaining own (row e v))) start)
+      → shadow (committed e t own) v v ≡ Some (valueOr (furthest-of any-shadow v (remaining own (row e v))) start)
   lead-renewed v l ne h read =
       let in-both = shadow-within e z v v l h in
       lead-at v ne
@@ -138,9 +138,9 @@ module _ (e : Engine) (z : Sized e) (t : ℕ) (t-in : t < 8) (own : List WriteEn
     scripts = length-set (e .scripts) t None ∙ z .scripts;
     rows = length-set gone-rows t no-shadows ∙ length-map (renew own 0 (e .shadows)) (cleared t) ∙ length-renew own 0 (e .shadows) ∙ z .rows;
     places = λ v l. ⊎-elim
-      (λ (q : v ≡ t). ap (λ k. length (row (committed e t own) k)) q ∙ ap length row-there ∙ length-nothing 8)
-      (λ (q : v ≡ t → ⊥). ap length (row-other v q) ∙ length-set (renewed own v (row e v)) t None ∙ length-renewed own v (row e v) ∙ z .places v l)
-      (cases-eq v t);
+        (λ (q : v ≡ t). ap (λ k. length (row (committed e t own) k)) q ∙ ap length row-there ∙ length-nothing 8)
+        (λ (q : v ≡ t → ⊥). ap length (row-other v q) ∙ length-set (renewed own v (row e v)) t None ∙ length-renewed own v (row e v) ∙ z .places v l)
+        (cases-eq v t);
   }
 
   pub committed-count : (v : ℕ) → count (row (committed e t own) v) ≤ count (row e v)
@@ -170,39 +170,47 @@ module _ (ar : Meaning) (pages : List ℕ) (e : Engine) (i : Inv ar pages no-exe
   new-lead v sc l ne script h =
       ⊎-elim
       (λ (read : has-read-any (l .reads) own ≡ true). spoiled read (furthest-of any-shadow v (remaining own (row e v))) refl)
-      (λ (unread : has-read-any (l .reads) own ≡ false).
-        (l, record {
+      (λ (unread : has-read-any (l .reads) own ≡ false). (
+        l,
+        record {
           leads = lead-stays e (i .sized) t t-in own v l ne h unread;
           unread = unread;
           reached = i .rows v .reached sc v l script h;
           behind = omega arith;
           most = λ w s k u. i .rows v .behind w s l k h;
-        }))
+        },
+      ))
       (cases-bool (has-read-any (l .reads) own))
     where
       remains : (w : ℕ) (s : Stand) → shadow e v w ≡ Some s → has-read-any (s .reads) own ≡ false → getD (remaining own (row e v)) w None ≡ Some s
       remains w s k u = remaining-at own (row e v) w ∙ ap (kept own) k ∙ kept-unread own s u
+
       spoiled : has-read-any (l .reads) own ≡ true → (o : Option Stand) → furthest-of any-shadow v (remaining own (row e v)) ≡ o → (x : Stand) × NewLead v sc l x
-      spoiled read None q = (start, record {
-        leads = lead-renewed e (i .sized) t t-in own v l ne h read ∙ ap (λ o. Some (valueOr o start)) q;
-        unread = refl;
-        reached = here;
-        behind = omega arith;
-        most = λ w s k u. let b = furthest-of-most any-shadow v (remaining own (row e v)) w s (remains w s k u) refl in none-is-some (b .0) (sym q ∙ b .1);
-      })
+      spoiled read None q = (
+        start,
+        record {
+          leads = lead-renewed e (i .sized) t t-in own v l ne h read ∙ ap (λ o. Some (valueOr o start)) q;
+          unread = refl;
+          reached = here;
+          behind = omega arith;
+          most = λ w s k u. let b = furthest-of-most any-shadow v (remaining own (row e v)) w s (remains w s k u) refl in none-is-some (b .0) (sym q ∙ b .1);
+        },
+      )
       spoiled read (Some x) q =
           let a = furthest-of-among any-shadow v (remaining own (row e v)) x q in
-          let was = kept-was own (shadow e v (a .0)) x (sym (remaining-at own (row e v) (a .0)) ∙ a .1) in
-          (x, record {
-            leads = lead-renewed e (i .sized) t t-in own v l ne h read ∙ ap (λ o. Some (valueOr o start)) q;
-            unread = was .1;
-            reached = i .rows v .reached sc (a .0) x script (was .0);
-            behind = i .rows v .behind (a .0) x l (was .0) h;
-            most = λ w s k u.
-                let b = furthest-of-most any-shadow v (remaining own (row e v)) w s (remains w s k u) refl in
-                let same : b .0 ≡ x = let m : Some (b .0) ≡ Some x = sym (b .1) ∙ q in cc in
-                subst (λ y. s .step ≤ y .step) same (b .2);
-          })
+          let was = kept-was own (shadow e v (a .0)) x (sym (remaining-at own (row e v) (a .0)) ∙ a .1) in (
+            x,
+            record {
+              leads = lead-renewed e (i .sized) t t-in own v l ne h read ∙ ap (λ o. Some (valueOr o start)) q;
+              unread = was .1;
+              reached = i .rows v .reached sc (a .0) x script (was .0);
+              behind = i .rows v .behind (a .0) x l (was .0) h;
+              most = λ w s k u.
+                  let b = furthest-of-most any-shadow v (remaining own (row e v)) w s (remains w s k u) refl in
+                  let same : b .0 ≡ x = let m : Some (b .0) ≡ Some x = sym (b .1) ∙ q in cc in
+                  subst (λ y. s .step ≤ y .step) same (b .2);
+            },
+          )
 
   abbrev e′ : Engine
   e′ = committed e t own
@@ -221,10 +229,10 @@ module _ (ar : Meaning) (pages : List ℕ) (e : Engine) (i : Inv ar pages no-exe
       ⊎-elim
       (λ (q : v ≡ t). none-is-some sc (sym (script-there e (i .sized) t t-in own) ∙ ap (script-of e′) (sym q) ∙ h))
       (λ (q : v ≡ t → ⊥).
-        let was : script-of e v ≡ Some sc = sym (script-other e (i .sized) t t-in own v q) ∙ h in
-        let l = some-is (shadow e v v) (i .rows v .led sc was) in
-        let n = new-lead v sc (l .0) q was (l .1) in
-        record { ne = q; script = was; l = l .0; lead = l .1; x = n .0; new = n .1 })
+      let was : script-of e v ≡ Some sc = sym (script-other e (i .sized) t t-in own v q) ∙ h in
+      let l = some-is (shadow e v v) (i .rows v .led sc was) in
+      let n = new-lead v sc (l .0) q was (l .1) in
+      record { ne = q; script = was; l = l .0; lead = l .1; x = n .0; new = n .1 })
       (cases-eq v t)
 
   -- a shadow after the commit, not a leading one, is one from before that has read nothing put
@@ -270,13 +278,13 @@ module _ (ar : Meaning) (pages : List ℕ) (e : Engine) (i : Inv ar pages no-exe
         led = λ z h. ap isSome (n .leads);
         ends = λ z h. r .ends z (sym (script-other e (i .sized) t t-in own v ne) ∙ h);
         for-open = λ u s h. ⊎-elim
-          (λ (q : u ≡ v). ap (is-open e′) q ∙ ap isSome script-now)
-          (λ (q : u ≡ v → ⊥). let o = old-shadow v u s ne q h in ap isSome (script-other e (i .sized) t t-in own u (o .0)) ∙ r .for-open u s (o .1))
-          (cases-eq u v);
+            (λ (q : u ≡ v). ap (is-open e′) q ∙ ap isSome script-now)
+            (λ (q : u ≡ v → ⊥). let o = old-shadow v u s ne q h in ap isSome (script-other e (i .sized) t t-in own u (o .0)) ∙ r .for-open u s (o .1))
+            (cases-eq u v);
         reached = λ z u s h q. subst (λ y. Leads ar y (put-all own pages) start s) (this-script z h) (⊎-elim
-          (λ (d : u ≡ v). subst (Leads ar sc (put-all own pages) start) (is-new u s d q) (frame sc (k .x) (n .reached) (n .unread)))
-          (λ (d : u ≡ v → ⊥). let o = old-shadow v u s ne d q in frame sc s (r .reached sc u s (k .script) (o .1)) (o .2))
-          (cases-eq u v));
+            (λ (d : u ≡ v). subst (Leads ar sc (put-all own pages) start) (is-new u s d q) (frame sc (k .x) (n .reached) (n .unread)))
+            (λ (d : u ≡ v → ⊥). let o = old-shadow v u s ne d q in frame sc s (r .reached sc u s (k .script) (o .1)) (o .2))
+            (cases-eq u v));
         behind = λ u s a h q.
             let same : k .x ≡ a = is-new v a refl q in
             subst (λ y. s .step ≤ y .step) same (⊎-elim
@@ -295,8 +303,8 @@ module _ (ar : Meaning) (pages : List ℕ) (e : Engine) (i : Inv ar pages no-exe
             let s-reached = r .reached sc u (old .0) (k .script) (old .1) in
             ap isSome (others-kept e (i .sized) t t-in own v u ne u-ne d ∙ ap (kept own) (old .1)) ∙ ⊎-elim
             (λ (read : has-read-any (old .0 .reads) own ≡ true).
-              -- dropped, so the new lead is before it and cannot have read what it has not
-              absurd (both-ways (has-read-any (old .0 .reads) (lead-writes e u)) (r .apart u (old .0) d (old .1) refl) (read-lasts ar sc pages (lead-writes e u) (earlier (k .x) (old .0) sc (n .reached) s-reached (n .unread) read) x-reads-old)))
+            -- dropped, so the new lead is before it and cannot have read what it has not
+            absurd (both-ways (has-read-any (old .0 .reads) (lead-writes e u)) (r .apart u (old .0) d (old .1) refl) (read-lasts ar sc pages (lead-writes e u) (earlier (k .x) (old .0) sc (n .reached) s-reached (n .unread) read) x-reads-old)))
             (λ (unread : has-read-any (old .0 .reads) own ≡ false). ap isSome (kept-unread own (old .0) unread))
             (cases-bool (has-read-any (old .0 .reads) own));
       }
@@ -311,17 +319,17 @@ module _ (ar : Meaning) (pages : List ℕ) (e : Engine) (i : Inv ar pages no-exe
   closed-now : (v : ℕ) → script-of e′ v ≡ None → RowInv ar (put-all own pages) no-exempt e′ v
   closed-now v h =
       let bare : (u : ℕ) → shadow e′ v u ≡ None = λ u. ⊎-elim
-          (λ (q : v ≡ t). ap (λ w. shadow e′ w u) q ∙ none-of e (i .sized) t t-in own u)
-          (λ (q : v ≡ t → ⊥).
-            let was : script-of e v ≡ None = sym (script-other e (i .sized) t t-in own v q) ∙ h in
-            ⊎-elim
-            (λ (d : u ≡ v). ap (shadow e′ v) d ∙ lead-none e (i .sized) t t-in own v q (i .rows v .bare was v))
-            (λ (d : u ≡ v → ⊥). ⊎-elim
-              (λ (w : u ≡ t). ap (shadow e′ v) w ∙ none-for e (i .sized) t t-in own v q)
-              (λ (w : u ≡ t → ⊥). others-kept e (i .sized) t t-in own v u q w d ∙ ap (kept own) (i .rows v .bare was u))
-              (cases-eq u t))
-            (cases-eq u v))
-          (cases-eq v t) in
+      (λ (q : v ≡ t). ap (λ w. shadow e′ w u) q ∙ none-of e (i .sized) t t-in own u)
+      (λ (q : v ≡ t → ⊥).
+      let was : script-of e v ≡ None = sym (script-other e (i .sized) t t-in own v q) ∙ h in
+      ⊎-elim
+      (λ (d : u ≡ v). ap (shadow e′ v) d ∙ lead-none e (i .sized) t t-in own v q (i .rows v .bare was v))
+      (λ (d : u ≡ v → ⊥). ⊎-elim
+      (λ (w : u ≡ t). ap (shadow e′ v) w ∙ none-for e (i .sized) t t-in own v q)
+      (λ (w : u ≡ t → ⊥). others-kept e (i .sized) t t-in own v u q w d ∙ ap (kept own) (i .rows v .bare was u))
+      (cases-eq u t))
+      (cases-eq u v))
+      (cases-eq v t) in
       record {
         few = let a = committed-count e (i .sized) t t-in own v in let b = i .rows v .few in omega arith;
         bare = λ _ u. bare u;

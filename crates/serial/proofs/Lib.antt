@@ -7,3 +7,4 @@ pub mod Turns
 pub mod Commits
 pub mod Calls
 pub mod Booking
+pub mod Sound

@@ -4,3 +4,4 @@ pub mod Laws
 pub mod Faults
 pub mod Rules
 pub mod Book
+pub mod Sound

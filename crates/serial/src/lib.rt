@@ -45,5 +45,4 @@ pub fn runs_are_lawful()
 // with the rules, it holds of their calls too. The function does nothing: its contract is what is proved.
 pub fn every_list_is_booked()
     ensures { λ _. ⌜ Every-list-booked ⌝ }
-{
-}
+{}

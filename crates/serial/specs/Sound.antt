@@ -1,0 +1,49 @@
+-- What holds in every engine, whatever store it was called with. Assumes nothing.
+use mathlib.Core.Path.{_≡_}
+use mathlib.Core.Bool.{Bool, true, false}
+use Prim.Native.Nat.{ℕ, _≤_, _<_}
+use lib.ListN.{length}
+use Rattle.std.specs.Options.{isSome}
+use Rattle.std.specs.declared.option.Option.the-variants.{Some}
+use Rattle.script.specs.Laws.{Ends-at-end}
+use Rattle.serial.specs.Machine.{Steps, Stand}
+use Rattle.serial.specs.Rules.{Engine, State, Call, does, script-of, is-open, row, shadow, count}
+
+-- eight scripts, and eight rows of eight places
+abbrev pub Eight : Engine → Type 0
+Eight e = (length (e .scripts) ≡ 8) × (length (e .shadows) ≡ 8) × ((t : ℕ) → t < 8 → length (row e t) ≡ 8)
+
+-- the allowance is 1 to 8
+abbrev pub Allowance-fits : Engine → Type 0
+Allowance-fits e = (1 ≤ e .allowance) × (e .allowance ≤ 8)
+
+-- a closed slot has no shadow
+abbrev pub Closed-bare : Engine → Type 0
+Closed-bare e = (t u : ℕ) → is-open e t ≡ false → isSome (shadow e t u) ≡ false
+
+-- an open slot has its leading shadow
+abbrev pub Open-led : Engine → Type 0
+Open-led e = (t : ℕ) → is-open e t ≡ true → isSome (shadow e t t) ≡ true
+
+-- no slot has more shadows than the allowance
+abbrev pub Within-allowance : Engine → Type 0
+Within-allowance e = (t : ℕ) → count (row e t) ≤ e .allowance
+
+-- no shadow is for a closed slot
+abbrev pub For-open : Engine → Type 0
+For-open e = (t u : ℕ) → isSome (shadow e t u) ≡ true → is-open e u ≡ true
+
+-- every script has at most sixteen steps and comes to its end
+abbrev pub Scripts-fit : Engine → Type 0
+Scripts-fit e = (t : ℕ) (script : Steps) → script-of e t ≡ Some script → (length script ≤ 16) × Ends-at-end script
+
+-- no shadow is past its script's end, and it has at most one read and one page on its list for each step behind it
+abbrev pub Shadows-fit : Engine → Type 0
+Shadows-fit e =
+    (t u : ℕ) (script : Steps) (s : Stand) → script-of e t ≡ Some script → shadow e t u ≡ Some s
+    → (s .step ≤ length script) × (length (s .reads) ≤ s .step) × (length (s .own) ≤ s .step)
+
+-- the engine's invariant
+abbrev pub Sound-engine : Engine → Type 0
+Sound-engine e =
+    Eight e × Allowance-fits e × Closed-bare e × Open-led e × Within-allowance e × For-open e × Scripts-fit e × Shadows-fit e
