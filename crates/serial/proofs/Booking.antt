@@ -218,7 +218,7 @@ module _ (ar : Meaning) where
 
   -- an accepted commit leaves the state that the rules give for the leading shadow's list
   module _ (s : State) (t r n : ℕ) (last : Stand) (lead : shadow (s .engine) t t ≡ Some last) where
-    abbrev Leaves : Done → Type 0
+    abbrev pub Leaves : Done → Type 0
     Leaves d = d .1 ≡ Committed r n → d .0 ≡ record { engine = committed (s .engine) t (last .own); pages = put-all (last .own) (s .pages) }
 
     puts-leaves : (o : Option ℕ) → Leaves (commit-puts s t last o)
@@ -234,7 +234,7 @@ module _ (ar : Meaning) where
         (λ e. puts-leaves (first-off (length (s .pages)) (last .own)))
         (λ e q. let z : _≡_ {A = ℕ} 0 1 = cc in absurd (omega arith)))
 
-    commit-leaves : Leaves (does ar (commit t) s)
+    pub commit-leaves : Leaves (does ar (commit t) s)
     commit-leaves =
         cond-both {A = Done} (leb t 7) _ _ Leaves
         (λ e. open-leaves (script-of (s .engine) t))

@@ -8,3 +8,4 @@ pub mod Commits
 pub mod Calls
 pub mod Booking
 pub mod Sound
+pub mod Words

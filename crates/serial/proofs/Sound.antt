@@ -197,10 +197,10 @@ account-script : (e : Engine) (v u : ℕ) → account e v u .scripts ≡ e .scri
 account-script e v u = cond-both (has-room e v u) _ e (λ z. z .scripts ≡ e .scripts) (λ h. refl) (λ h. refl)
 
 -- what accounting keeps, over a list of slots
-record Stays (e e′ : Engine) : Type 0 where
-  ok : Holds e′
-  leads : (w : ℕ) → shadow e′ w w ≡ shadow e w w
-  scripts : e′ .scripts ≡ e .scripts
+pub record Stays (e e′ : Engine) : Type 0 where
+  pub ok : Holds e′
+  pub leads : (w : ℕ) → shadow e′ w w ≡ shadow e w w
+  pub scripts : e′ .scripts ≡ e .scripts
 
 stays-same : (e : Engine) → Holds e → Stays e e
 stays-same e o = record { ok = o; leads = λ w. refl; scripts = refl }
@@ -208,13 +208,13 @@ stays-same e o = record { ok = o; leads = λ w. refl; scripts = refl }
 stays-then : (e e₁ e₂ : Engine) → Stays e e₁ → Stays e₁ e₂ → Stays e e₂
 stays-then e e₁ e₂ a b = record { ok = b .ok; leads = λ w. b .leads w ∙ a .leads w; scripts = b .scripts ∙ a .scripts }
 
-open-same : (e e′ : Engine) (t : ℕ) → e′ .scripts ≡ e .scripts → is-open e t ≡ true → is-open e′ t ≡ true
+pub open-same : (e e′ : Engine) (t : ℕ) → e′ .scripts ≡ e .scripts → is-open e t ≡ true → is-open e′ t ≡ true
 open-same e e′ t q h = ap (λ xs. isSome (getD xs t None)) q ∙ h
 
 accounted-stays : (e : Engine) → Holds e → (v u : ℕ) → u ≢ v → is-open e v ≡ true → is-open e u ≡ true → Stays e (account e v u)
 accounted-stays e o v u ne v-open u-open = record { ok = account-ok e o v u v-open u-open; leads = account-lead e o v u ne v-open u-open; scripts = account-script e v u }
 
-reads-stay : (us : List ℕ) (e : Engine) (t p : ℕ) → Holds e → is-open e t ≡ true → Stays e (account-reads e t p us)
+pub reads-stay : (us : List ℕ) (e : Engine) (t p : ℕ) → Holds e → is-open e t ≡ true → Stays e (account-reads e t p us)
 reads-stay [] e t p o t-open = stays-same e o
 reads-stay (u ∷ us) e t p o t-open =
     let one : Stays e (account-read e t p u) = cond-both (read-conflict e t p u) (account e t u) e (Stays e)
@@ -225,7 +225,7 @@ reads-stay (u ∷ us) e t p o t-open =
     (λ h. stays-same e o) in
     stays-then e (account-read e t p u) _ one (reads-stay us (account-read e t p u) t p (one .ok) (open-same e (account-read e t p u) t (one .scripts) t-open))
 
-writes-stay : (vs : List ℕ) (e : Engine) (t p : ℕ) → Holds e → is-open e t ≡ true → Stays e (account-writes e t p vs)
+pub writes-stay : (vs : List ℕ) (e : Engine) (t p : ℕ) → Holds e → is-open e t ≡ true → Stays e (account-writes e t p vs)
 writes-stay [] e t p o t-open = stays-same e o
 writes-stay (v ∷ vs) e t p o t-open =
     let one : Stays e (account-write e t p v) = cond-both (write-conflict e t p v) (account e v t) e (Stays e)
@@ -236,7 +236,7 @@ writes-stay (v ∷ vs) e t p o t-open =
     (λ h. stays-same e o) in
     stays-then e (account-write e t p v) _ one (writes-stay vs (account-write e t p v) t p (one .ok) (open-same e (account-write e t p v) t (one .scripts) t-open))
 
-before-stays : (e : Engine) (t : ℕ) (sr : Option ℕ) → Holds e → is-open e t ≡ true → Stays e (before-step e t sr)
+pub before-stays : (e : Engine) (t : ℕ) (sr : Option ℕ) → Holds e → is-open e t ≡ true → Stays e (before-step e t sr)
 before-stays e t None o t-open = stays-same e o
 before-stays e t (Some p) o t-open = reads-stay slots e t p o t-open
 

@@ -5,3 +5,4 @@ pub mod Faults
 pub mod Rules
 pub mod Book
 pub mod Sound
+pub mod Words

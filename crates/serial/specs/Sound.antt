@@ -6,8 +6,8 @@ use lib.ListN.{length}
 use Rattle.std.specs.Options.{isSome}
 use Rattle.std.specs.declared.option.Option.the-variants.{Some}
 use Rattle.script.specs.Laws.{Ends-at-end}
-use Rattle.serial.specs.Machine.{Steps, Stand}
-use Rattle.serial.specs.Rules.{Engine, State, Call, does, script-of, is-open, row, shadow, count}
+use Rattle.serial.specs.Machine.{Meaning, Steps, Stand}
+use Rattle.serial.specs.Rules.{Engine, State, fresh-engine, Call, does, script-of, is-open, row, shadow, count}
 
 -- eight scripts, and eight rows of eight places
 abbrev pub Eight : Engine → Type 0
@@ -47,3 +47,9 @@ Shadows-fit e =
 abbrev pub Sound-engine : Engine → Type 0
 Sound-engine e =
     Eight e × Allowance-fits e × Closed-bare e × Open-led e × Within-allowance e × For-open e × Scripts-fit e × Shadows-fit e
+
+-- a fresh engine is sound, and every call keeps that, whatever it answers and over any pages
+abbrev pub Engines-stay-sound : Type 0
+Engines-stay-sound =
+    Sound-engine fresh-engine
+    × ((ar : Meaning) (c : Call) (s : State) → Sound-engine (s .engine) → Sound-engine (does ar c s .0 .engine))

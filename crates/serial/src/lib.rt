@@ -2,6 +2,8 @@
 // calls share, and no state.
 ghost use Rattle.serial.specs.Book.{Every-list-booked};
 ghost use Rattle.serial.specs.Laws.{Steps-rise, Runs-determined, Reads-grow, Unread-reached, Stand-found};
+ghost use Rattle.serial.specs.Sound.{Engines-stay-sound};
+ghost use Rattle.serial.specs.Words.{Picks-furthest, Commits-in-words, Turns-in-words, Declined-changes-nothing};
 
 mod fault;
 
@@ -45,4 +47,13 @@ pub fn runs_are_lawful()
 // with the rules, it holds of their calls too. The function does nothing: its contract is what is proved.
 pub fn every_list_is_booked()
     ensures { λ _. ⌜ Every-list-booked ⌝ }
+{}
+
+// What the rules do, in words, and what holds in every engine. The function does nothing: its contract is what is proved.
+pub fn rules_in_words()
+    ensures furthest { λ _. ⌜ Picks-furthest ⌝ }
+    ensures commits { λ _. ⌜ Commits-in-words ⌝ }
+    ensures turns { λ _. ⌜ Turns-in-words ⌝ }
+    ensures declined { λ _. ⌜ Declined-changes-nothing ⌝ }
+    ensures sound { λ _. ⌜ Engines-stay-sound ⌝ }
 {}
