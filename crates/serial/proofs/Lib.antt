@@ -9,3 +9,4 @@ pub mod Calls
 pub mod Booking
 pub mod Sound
 pub mod Words
+pub mod Outcomes
