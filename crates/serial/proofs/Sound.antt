@@ -15,10 +15,11 @@ use Rattle.std.specs.declared.option.Option.the-variants.{Some, None}
 use Rattle.std.specs.declared.result.Result.{Result}
 use Rattle.std.specs.declared.result.Result.the-variants.{Ok, Err}
 use Rattle.std.proofs.shelf.Lists.{length-append}
-use Rattle.std.proofs.shelf.Tests.{cases-bool, cases-eq, cond-true, cond-false, cond-both, and-parts, or-cases, leb-true, ltb-true, eqb-true, eqb-false, not-true, true≢false}
+use Rattle.std.proofs.shelf.Tests.{cases-bool, cases-eq, cond-true, cond-false, cond-both, and-parts, and-from, or-cases, leb-true, le-leb, ltb-true, eqb-true, eqb-false, not-true, true≢false}
 use Rattle.pages.specs.Pages.{entry}
 use Rattle.pages.specs.declared.WriteEntry.{WriteEntry}
-use Rattle.script.specs.Laws.{Ends-at-end, Decodes}
+use Rattle.script.specs.declared.Step.{Step}
+use Rattle.script.specs.Laws.{leaves-out, Ends-at-end, Decodes}
 use Rattle.script.specs.Script.{decoded}
 use Rattle.script.specs.declared.Register.{Register}
 use Rattle.script.specs.declared.ScriptFault.{ScriptFault}
@@ -30,7 +31,7 @@ use Rattle.serial.specs.Machine.{Meaning, Steps, Stand, start, has-read-any, w
 use Rattle.serial.specs.Alone.{next}
 use Rattle.serial.specs.Laws.{Next}
 use Rattle.serial.specs.Rules.{Row, Engine, State, Done, slots, fresh-engine, script-of, is-open, row, shadow, with-shadow, clean, furthest-of, any-shadow, count, has-room, account, read-conflict, account-read, account-reads, write-conflict, account-write, account-writes, before-step, after-step, lead-moves, shadow-moves, standing, in-range, first-open, allow-closed, allows, begun, begin-with, begins, turn-step, turn-standing, turn-shadow, turn-open, turns, closed, remaining, kept, committed, first-off, commit-puts, commit-lead, commit-open, commits, abort-open, aborts, Call, set-allowance, begin, turn, commit, abort, does}
-use Rattle.serial.specs.Sound.{Eight, Closed-bare, Sound-engine}
+use Rattle.serial.specs.Sound.{ends-within, script-fits, shadow-fits, Sound-engine}
 use Rattle.serial.proofs.Steps.{noted}
 use Rattle.serial.proofs.Runs.{stepped, next-ends}
 use Rattle.serial.proofs.Table.{none-is-some, some-is, none-is, some-or-none, Sized, shadow-within, row-put, row-put-other, shadow-put, shadow-put-place, shadow-put-row, sized-put, count-set, count-add, remaining-at, kept-was, kept-unread, furthest-of-among}
@@ -53,6 +54,48 @@ pub record Holds (e : Engine) : Type 0 where
   pub scripts : (t : ℕ) (sc : Steps) → script-of e t ≡ Some sc → (length sc ≤ 16) × Ends-at-end sc
   pub shadows : (t u : ℕ) (sc : Steps) (s : Stand) → script-of e t ≡ Some sc → shadow e t u ≡ Some s → Fits-script sc s
 
+ends-told : (n i : ℕ) (ss : Steps) → ends-within n i ss ≡ true → (k : ℕ) (s : Step) → nth ss k ≡ Some s → i + k + 1 + leaves-out s ≤ n
+ends-told n i [] h k s e = none-is-some s e
+ends-told n i (x ∷ ss) h zero s e =
+    let same : x ≡ s = cc in
+    let low = leb-true (i + 1 + leaves-out x) n (and-parts (leb (i + 1 + leaves-out x) n) (ends-within n (suc i) ss) h .0) in
+    let z : leaves-out x ≡ leaves-out s = ap leaves-out same in
+    omega arith
+ends-told n i (x ∷ ss) h (suc k) s e =
+    let rest = ends-told n (suc i) ss (and-parts (leb (i + 1 + leaves-out x) n) (ends-within n (suc i) ss) h .1) k s e in
+    omega arith
+
+ends-tell : (n i : ℕ) (ss : Steps) → ((k : ℕ) (s : Step) → nth ss k ≡ Some s → i + k + 1 + leaves-out s ≤ n) → ends-within n i ss ≡ true
+ends-tell n i [] h = refl
+ends-tell n i (x ∷ ss) h =
+    and-from (leb (i + 1 + leaves-out x) n) (ends-within n (suc i) ss) (le-leb (i + 1 + leaves-out x) n (let a = h 0 x refl in omega arith))
+    (ends-tell n (suc i) ss (λ k s e. let a = h (suc k) s e in omega arith))
+
+script-told : (sc : Steps) → script-fits (Some sc) ≡ true → (length sc ≤ 16) × Ends-at-end sc
+script-told sc h =
+    let a = and-parts (leb (length sc) 16) (ends-within (length sc) 0 sc) h in
+    (leb-true (length sc) 16 (a .0), λ i s e. let b = ends-told (length sc) 0 sc (a .1) i s e in omega arith)
+
+script-tell : (o : Option Steps) → ((sc : Steps) → o ≡ Some sc → (length sc ≤ 16) × Ends-at-end sc) → script-fits o ≡ true
+script-tell None h = refl
+script-tell (Some sc) h =
+    let a = h sc refl in
+    and-from (leb (length sc) 16) (ends-within (length sc) 0 sc) (le-leb (length sc) 16 (a .0)) (ends-tell (length sc) 0 sc (λ k s e. let b = a .1 k s e in omega arith))
+
+shadow-told : (sc : Steps) (s : Stand) → shadow-fits (Some sc) (Some s) ≡ true → Fits-script sc s
+shadow-told sc s h =
+    let a = and-parts (leb (s .step) (length sc)) (leb (length (s .reads)) (s .step) && leb (length (s .own)) (s .step)) h in
+    let b = and-parts (leb (length (s .reads)) (s .step)) (leb (length (s .own)) (s .step)) (a .1) in
+    (leb-true _ _ (a .0), leb-true _ _ (b .0), leb-true _ _ (b .1))
+
+shadow-tell : (o : Option Steps) (x : Option Stand) → ((sc : Steps) (s : Stand) → o ≡ Some sc → x ≡ Some s → Fits-script sc s) → shadow-fits o x ≡ true
+shadow-tell None x h = refl
+shadow-tell (Some sc) None h = refl
+shadow-tell (Some sc) (Some s) h =
+    let a = h sc s refl refl in
+    and-from (leb (s .step) (length sc)) (leb (length (s .reads)) (s .step) && leb (length (s .own)) (s .step)) (le-leb _ _ (a .0))
+    (and-from (leb (length (s .reads)) (s .step)) (leb (length (s .own)) (s .step)) (le-leb _ _ (a .1)) (le-leb _ _ (a .2)))
+
 pub ok-from : (e : Engine) → Sound-engine e → Holds e
 ok-from e h = record {
   sized = record { scripts = h .0 .0; rows = h .0 .1; places = h .0 .2 };
@@ -61,12 +104,21 @@ ok-from e h = record {
   led = h .3;
   few = h .4;
   for-open = h .5;
-  scripts = h .6;
-  shadows = h .7;
+  scripts = λ t sc q. script-told sc (sym (ap script-fits q) ∙ h .6 t);
+  shadows = λ t u sc s q k. shadow-told sc s (sym (ap (shadow-fits (Some sc)) k) ∙ sym (ap (λ o. shadow-fits o (shadow e t u)) q) ∙ h .7 t u);
 }
 
 pub sound-from : (e : Engine) → Holds e → Sound-engine e
-sound-from e o = ((o .sized .scripts, o .sized .rows, o .sized .places), o .allowed, o .bare, o .led, o .few, o .for-open, o .scripts, o .shadows)
+sound-from e o = (
+  (o .sized .scripts, o .sized .rows, o .sized .places),
+  o .allowed,
+  o .bare,
+  o .led,
+  o .few,
+  o .for-open,
+  λ t. script-tell (script-of e t) (o .scripts t),
+  λ t u. shadow-tell (script-of e t) (shadow e t u) (λ sc s q k. o .shadows t u sc s q k),
+)
 
 -- the own list grows by one at most
 length-write : (es : List WriteEntry) (p w : ℕ) → length (write es p w) ≤ suc (length es)

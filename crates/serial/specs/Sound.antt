@@ -1,11 +1,14 @@
 -- What holds in every engine, whatever store it was called with. Assumes nothing.
 use mathlib.Core.Path.{_≡_}
-use mathlib.Core.Bool.{Bool, true, false}
-use Prim.Native.Nat.{ℕ, _≤_, _<_}
+use mathlib.Core.Bool.{Bool, true, false, _&&_}
+use mathlib.Core.List.{List, [], _∷_}
+use Prim.Native.Nat.{ℕ, suc, _+_, _≤_, _<_}
+use lib.Dec.{leb}
 use lib.ListN.{length}
 use Rattle.std.specs.Options.{isSome}
-use Rattle.std.specs.declared.option.Option.the-variants.{Some}
-use Rattle.script.specs.Laws.{Ends-at-end}
+use Rattle.std.specs.declared.option.Option.{Option}
+use Rattle.std.specs.declared.option.Option.the-variants.{Some, None}
+use Rattle.script.specs.Laws.{leaves-out}
 use Rattle.serial.specs.Machine.{Meaning, Steps, Stand}
 use Rattle.serial.specs.Rules.{Engine, State, fresh-engine, Call, does, script-of, is-open, row, shadow, count}
 
@@ -33,15 +36,27 @@ Within-allowance e = (t : ℕ) → count (row e t) ≤ e .allowance
 abbrev pub For-open : Engine → Type 0
 For-open e = (t u : ℕ) → isSome (shadow e t u) ≡ true → is-open e u ≡ true
 
--- every script has at most sixteen steps and comes to its end
-abbrev pub Scripts-fit : Engine → Type 0
-Scripts-fit e = (t : ℕ) (script : Steps) → script-of e t ≡ Some script → (length script ≤ 16) × Ends-at-end script
+-- a script has at most sixteen steps and comes to its end: no step leaves out more than there are
+abbrev pub ends-within : ℕ → ℕ → Steps → Bool
+ends-within n i [] = true
+ends-within n i (s ∷ ss) = leb (i + 1 + leaves-out s) n && ends-within n (suc i) ss
 
--- no shadow is past its script's end, and it has at most one read and one page on its list for each step behind it
+abbrev pub script-fits : Option Steps → Bool
+script-fits None = true
+script-fits (Some script) = leb (length script) 16 && ends-within (length script) 0 script
+
+abbrev pub Scripts-fit : Engine → Type 0
+Scripts-fit e = (t : ℕ) → script-fits (script-of e t) ≡ true
+
+-- a shadow is not past its script's end, and has at most one read and one page on its list for each step behind it
+abbrev pub shadow-fits : Option Steps → Option Stand → Bool
+shadow-fits None s = true
+shadow-fits (Some script) None = true
+shadow-fits (Some script) (Some s) =
+    leb (s .step) (length script) && (leb (length (s .reads)) (s .step) && leb (length (s .own)) (s .step))
+
 abbrev pub Shadows-fit : Engine → Type 0
-Shadows-fit e =
-    (t u : ℕ) (script : Steps) (s : Stand) → script-of e t ≡ Some script → shadow e t u ≡ Some s
-    → (s .step ≤ length script) × (length (s .reads) ≤ s .step) × (length (s .own) ≤ s .step)
+Shadows-fit e = (t u : ℕ) → shadow-fits (script-of e t) (shadow e t u) ≡ true
 
 -- the engine's invariant
 abbrev pub Sound-engine : Engine → Type 0
