@@ -1,4 +1,5 @@
 pub mod Lists
+pub mod Rows
 pub mod Stands
 pub mod Puts
 pub mod Ends
