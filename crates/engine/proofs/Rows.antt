@@ -23,10 +23,38 @@ use Rattle.engine.specs.declared.shadow.Shadow.{Shadow}
 use Rattle.engine.specs.View.{stand-of, Room, Took}
 use Rattle.engine.specs.Table.{unread, Lent}
 
-pub at-mapped : {X Y : Type 0} (f : X → Y) (xs : List (Option X)) (i : ℕ) → mapped f (getD xs i None) ≡ getD (map (mapped f) xs) i None
-at-mapped f [] i = refl
-at-mapped f (x ∷ xs) zero = refl
-at-mapped f (x ∷ xs) (suc i) = at-mapped f xs i
+-- a list, seen through a view of each element
+module _ {X Y : Type 0} (f : X → Y) where
+  pub at-map : (d : X) (xs : List X) (i : ℕ) → f (getD xs i d) ≡ getD (map f xs) i (f d)
+  at-map d [] i = refl
+  at-map d (x ∷ xs) zero = refl
+  at-map d (x ∷ xs) (suc i) = at-map d xs i
+
+  pub more-at-map : {Z : Type 0} (F : List Y → Z) (d : X) (xs : List X) (i : ℕ) → i < length xs → F (drop i (map f xs)) ≡ F (f (getD xs i d) ∷ drop (i + 1) (map f xs))
+  more-at-map F d xs i low =
+      at-drop-more F (map f xs) i (f d) (simp length-map low)
+      ∙ ap (λ c. F (c ∷ drop (i + 1) (map f xs))) (sym (at-map d xs i))
+
+  pub all-at-map : {Z : Type 0} (F : List Y → Z) (xs : List X) (i : ℕ) → length xs ≤ i → F (drop i (map f xs)) ≡ F []
+  all-at-map F xs i all = at-drop-all F (map f xs) i (simp length-map all)
+
+  -- a loop that puts g of what it sees at each place
+  module _ (g : Y → Y) (xs : List X) (i : ℕ) where
+    pub over-more : (d : X) (ys : List X) (y : X) → i < length xs → length ys ≡ length xs → map f ys ≡ map g (take i (map f xs)) ++ drop i (map f xs) → f y ≡ g (f (getD ys i d)) → map f (set ys i y) ≡ map g (take (i + 1) (map f xs)) ++ drop (i + 1) (map f xs)
+    over-more d ys y low same inv e =
+        let x = getD (map f ys) i (f d) in
+        let l : i < length (map f ys) = simp length-map (omega arith) in
+        let m : i < length (map f xs) = simp length-map (omega arith) in
+        map-set f ys i y
+        ∙ ap (set (map f ys) i) (e ∙ ap g (at-map d ys i))
+        ∙ map-over-more g (map f xs) (map f ys) i x m inv (getD-default (map f ys) i (f d) x l)
+
+    pub over-all : length xs ≤ i → map g (take i (map f xs)) ++ drop i (map f xs) ≡ map g (map f xs)
+    over-all all =
+        let l : length (map f xs) ≤ i = simp length-map all in
+        ap (λ cs. map g cs ++ drop i (map f xs)) (take-all i (map f xs) l)
+        ∙ ap (λ cs. map g (map f xs) ++ cs) (drop-all i (map f xs) l)
+        ∙ append-nil (map g (map f xs))
 
 -- an equal test finds the same
 module _ (p q : Stand → Bool) (same : (s : Stand) → p s ≡ q s) where
@@ -50,14 +78,6 @@ abbrev pub view : List (Option Shadow) → Row
 view xs = map (mapped stand-of) xs
 
 module _ (xs : List (Option Shadow)) (i : ℕ) where
-  pub view-more : {Y : Type 0} (F : Row → Y) → i < length xs → F (drop i (view xs)) ≡ F (mapped stand-of (getD xs i None) ∷ drop (i + 1) (view xs))
-  view-more F low =
-      at-drop-more F (view xs) i None (simp length-map low)
-      ∙ ap (λ c. F (c ∷ drop (i + 1) (view xs))) (sym (at-mapped stand-of xs i))
-
-  pub view-all : {Y : Type 0} (F : Row → Y) → length xs ≤ i → F (drop i (view xs)) ≡ F []
-  view-all F all = at-drop-all F (view xs) i (simp length-map all)
-
   count-first : (c : Option Stand) (cs : Row) → count (c ∷ cs) ≡ count (c ∷ []) + count cs
   count-first None cs = omega arith
   count-first (Some s) cs = omega arith
@@ -69,33 +89,17 @@ module _ (xs : List (Option Shadow)) (i : ℕ) where
   pub count-more : (n m : ℕ) → i < length xs → m ≡ n + count (mapped stand-of (getD xs i None) ∷ []) → (n + count (drop i (view xs)) ≡ count (view xs)) × (n ≤ i) → (m + count (drop (i + 1) (view xs)) ≡ count (view xs)) × (m ≤ i + 1)
   count-more n m low e inv =
       let c = mapped stand-of (getD xs i None) in
-      let f = view-more count low in
+      let f = more-at-map (mapped stand-of) count None xs i low in
       let g = count-first c (drop (i + 1) (view xs)) in
       let h = count-one c in
       let j = inv .0 in
       let k = inv .1 in
       (omega arith, omega arith)
 
-  pub remaining-more : (own : List WriteEntry) (ys : List (Option Shadow)) (y : Option Shadow) → i < length xs → length ys ≡ length xs → view ys ≡ remaining own (take i (view xs)) ++ drop i (view xs) → mapped stand-of y ≡ kept own (mapped stand-of (getD ys i None)) → view (set ys i y) ≡ remaining own (take (i + 1) (view xs)) ++ drop (i + 1) (view xs)
-  remaining-more own ys y low same inv e =
-      let x = getD (view ys) i None in
-      let l : i < length (view ys) = simp length-map (omega arith) in
-      let m : i < length (view xs) = simp length-map (omega arith) in
-      map-set (mapped stand-of) ys i y
-      ∙ ap (set (view ys) i) (e ∙ ap (kept own) (at-mapped stand-of ys i))
-      ∙ map-over-more (kept own) (view xs) (view ys) i x m inv (getD-default (view ys) i None x l)
-
-  pub remaining-all : (own : List WriteEntry) → length xs ≤ i → remaining own (take i (view xs)) ++ drop i (view xs) ≡ remaining own (view xs)
-  remaining-all own all =
-      let l : length (view xs) ≤ i = simp length-map all in
-      ap (λ cs. remaining own cs ++ drop i (view xs)) (take-all i (view xs) l)
-      ∙ ap (λ cs. remaining own (view xs) ++ cs) (drop-all i (view xs) l)
-      ∙ append-nil (remaining own (view xs))
-
 -- a step of the shadow at a place of the row
 module _ (xs : List (Option Shadow)) (u : ℕ) (s : Shadow) (at : getD xs u None ≡ Some s) where
   lent-stand : getD (view xs) u None ≡ Some (stand-of s)
-  lent-stand = sym (at-mapped stand-of xs u) ∙ ap (mapped stand-of) at
+  lent-stand = sym (at-map (mapped stand-of) None xs u) ∙ ap (mapped stand-of) at
 
   pub lent-room : Room (valueOr (getD (view xs) u None) start) → Room (stand-of s)
   lent-room h = subst (λ o. Room (valueOr o start)) lent-stand h
@@ -103,7 +107,7 @@ module _ (xs : List (Option Shadow)) (u : ℕ) (s : Shadow) (at : getD xs u None
   lent-by : (t : Shadow) (k : Taken) (r : Result (Unit {0}) StoreFault) → Took s k r t → Lent (record { entries = xs }) u k r (record { entries = set xs u (Some t) })
   lent-by t (moved e) r h = (h .0, map-set (mapped stand-of) xs u (Some t) ∙ ap (λ x. set (view xs) u (Some x)) (h .1))
   lent-by t (off-pages p) r h =
-      (h .0, ap view (ap (λ x. set xs u (Some x)) (h .1) ∙ ap (set xs u) (sym at) ∙ set-getD xs u None))
+      (h .0, ap (λ ys. record { entries = ys }) (ap (λ x. set xs u (Some x)) (h .1) ∙ ap (set xs u) (sym at) ∙ set-getD xs u None))
 
   pub lent-step : (ar : Meaning) (pages : List ℕ) (st : Step) (t : Shadow) (r : Result (Unit {0}) StoreFault) → Took s (takes ar pages st (stand-of s)) r t → Lent (record { entries = xs }) u (takes ar pages st (valueOr (getD (view xs) u None) start)) r (record { entries = set xs u (Some t) })
   lent-step ar pages st t r h =
@@ -112,4 +116,4 @@ module _ (xs : List (Option Shadow)) (u : ℕ) (s : Shadow) (at : getD xs u None
 
 -- a shadow that is there is there
 pub not-there : {A : Type 0} (xs : List (Option Shadow)) (u : ℕ) → isSome (getD (view xs) u None) ≡ true → getD xs u None ≡ None → A
-not-there xs u h e = absurd (true≢false (sym h ∙ ap isSome (sym (at-mapped stand-of xs u)) ∙ ap (λ o. isSome (mapped stand-of o)) e))
+not-there xs u h e = absurd (true≢false (sym h ∙ ap isSome (sym (at-map (mapped stand-of) None xs u)) ∙ ap (λ o. isSome (mapped stand-of o)) e))

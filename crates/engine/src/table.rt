@@ -4,13 +4,16 @@ ghost use Prim.Native.Nat.{_<_};
 ghost use Rattle.std.specs.Options.{mapped};
 ghost use Rattle.std.specs.declared.option.Option.the-variants.{Some, None};
 ghost use Rattle.script.specs.View.{steps-of};
-ghost use Rattle.serial.specs.Rules.{fresh-engine, script-of, is-open, shadow as shadow-at, with-shadow, first-open as lowest-open, begun, closed, renew, committed};
+ghost use Rattle.serial.specs.Rules.{fresh-engine, script-of, is-open, row as row-at, shadow as shadow-at, with-shadow, first-open as lowest-open, begun, closed, renew, committed};
 ghost use Rattle.engine.specs.View.{stand-of};
-ghost use Rattle.engine.specs.Table.{engine-of, with-allowance, with-rows, without-column};
+ghost use Rattle.engine.specs.Table.{row-of, engine-of, with-allowance, with-rows, without-column};
 use crate::row::Row;
 use crate::shadow::Shadow;
 use pages::WriteEntry;
 use script::Script;
+
+mod accounting;
+mod turn;
 
 #[derive(Clone, Copy)]
 pub struct Table {
@@ -70,12 +73,19 @@ impl Table {
         None
     }
 
+    fn row(&self, t: usize) -> &Row
+        requires { ⌜ t < 8 ⌝ }
+        ensures { λ r. ⌜ row-of (now r) ≡ row-at (engine-of (now (self .entry))) t ⌝ }
+    {
+        &self.rows[t]
+    }
+
     // Slot t's shadow for u, or its leading shadow where that is t.
     pub(crate) fn shadow(&self, t: usize, u: usize) -> Option<Shadow>
         requires { ⌜ t < 8 ⌝ ∗ ⌜ u < 8 ⌝ }
         ensures { λ r. ⌜ mapped stand-of r ≡ shadow-at (engine-of (now (self .entry))) t u ⌝ }
     {
-        self.rows[t].get(u)
+        self.row(t).get(u)
     }
 
     pub(crate) fn put_shadow(&mut self, t: usize, u: usize, entry: Option<Shadow>)
