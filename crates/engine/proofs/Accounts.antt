@@ -1,6 +1,6 @@
 -- Turns of the loops that account, and what accounting leaves. Assumes nothing.
 use mathlib.Core.Path.{_≡_, refl, sym, ap, _∙_}
-use mathlib.Core.Bool.{Bool, true, false, cond, not, _&&_}
+use mathlib.Core.Bool.{not, _&&_}
 use mathlib.Core.Logic.{_≢_, ⊎-elim}
 use mathlib.Core.List.{List, [], _∷_}
 use Prim.Native.Nat.{ℕ, zero, suc, _+_, _<_, _≤_}
@@ -11,7 +11,7 @@ use Rattle.std.specs.Options.{isSome, valueOr}
 use Rattle.std.specs.declared.option.Option.{Option}
 use Rattle.std.specs.declared.option.Option.the-variants.{Some, None}
 use Rattle.std.proofs.shelf.Lists.{at-drop-more, at-drop-all, getD-set-same, getD-set-other, getD-past, length-set}
-use Rattle.std.proofs.shelf.Tests.{cases-lt, cases-bool, cond-both, cond-true, cond-false, and-parts, not-true, eqb-false}
+use Rattle.std.proofs.shelf.Tests.{cases-lt, cond-both, and-parts, not-true, eqb-false}
 use Rattle.serial.specs.Machine.{Stand, start, has-written}
 use Rattle.serial.specs.Rules.{Engine, slots, row, shadow, is-open, lead-writes, with-shadow, clean, furthest-of, has-room, account, read-conflict, account-read, account-reads, account-write, account-writes, before-step}
 

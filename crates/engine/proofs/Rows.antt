@@ -4,7 +4,6 @@ use mathlib.Core.Bool.{Bool, true, not}
 use mathlib.Core.List.{List, [], _∷_, _++_, map}
 use Prim.Native.Nat.{ℕ, zero, suc, _+_, _<_, _≤_}
 use native.Mathlib.Omega.{arith}
-use native.Mathlib.Numerals.{add-one}
 use lib.ListN.{length, getD, set, take, drop}
 use Rattle.std.specs.Options.{mapped, isSome, valueOr}
 use Rattle.std.specs.declared.option.Option.{Option}
@@ -14,11 +13,10 @@ use Rattle.std.proofs.shelf.Tests.{true≢false}
 use Rattle.std.proofs.shelf.Edits.{map-over-more}
 use Rattle.std.specs.declared.result.Result.{Result}
 use Rattle.pages.specs.declared.StoreFault.{StoreFault}
-use Rattle.pages.specs.declared.WriteEntry.{WriteEntry}
 use Rattle.script.specs.declared.Step.{Step}
 use Rattle.serial.specs.declared.ReadEntry.{ReadEntry}
 use Rattle.serial.specs.Machine.{Meaning, Stand, start, Taken, moved, off-pages, takes, has-read-any}
-use Rattle.serial.specs.Rules.{Row, better, furthest, furthest-of, any-shadow, count, kept, remaining}
+use Rattle.serial.specs.Rules.{Row, better, furthest, furthest-of, any-shadow, count}
 use Rattle.engine.specs.declared.shadow.Shadow.{Shadow}
 use Rattle.engine.specs.View.{stand-of, Room, Took}
 use Rattle.engine.specs.Table.{unread, Lent}

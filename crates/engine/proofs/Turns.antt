@@ -1,17 +1,17 @@
 -- Steps that a shadow in the table takes. Assumes nothing.
 use mathlib.Core.Path.{_≡_, refl, sym, ap, subst, _∙_}
 use mathlib.Core.Bool.{Bool, true, false, cond}
-use mathlib.Core.List.{List, [], _∷_, map}
+use mathlib.Core.List.{List, [], map}
 use Prim.Native.Nat.{ℕ}
 use native.Mathlib.Omega.{arith}
 use lib.Dec.{eqb, ltb}
 use lib.ListN.{length, getD, set}
-use Rattle.std.specs.Options.{mapped, isSome, valueOr}
+use Rattle.std.specs.Options.{isSome, valueOr}
 use Rattle.std.specs.declared.option.Option.{Option}
 use Rattle.std.specs.declared.option.Option.the-variants.{Some, None}
 use Rattle.std.specs.declared.result.Result.{Result}
 use Rattle.std.specs.declared.result.Result.the-variants.{Ok, Err}
-use Rattle.std.proofs.shelf.Lists.{map-set, set-getD}
+use Rattle.std.proofs.shelf.Lists.{set-getD}
 use Rattle.std.proofs.shelf.Tests.{cond-true, eq-eqb}
 use Rattle.pages.specs.Pages.{fault-at}
 use Rattle.pages.specs.declared.StoreFault.{StoreFault}
@@ -56,7 +56,7 @@ module _ (b : Table) (t u : ℕ) where
       (subst (λ q. Lent (getD (b .rows) t no-row) u (takes ar pages st (valueOr (getD q u None) start)) r x) same-row h)
 
 -- the check of a step's page tells how the step ends
-abbrev pub Tells : Taken → Result (Unit {0}) StoreFault → Type 0
+abbrev Tells : Taken → Result (Unit {0}) StoreFault → Type 0
 Tells (moved e) r = r ≡ Ok tt
 Tells (off-pages p) r = r ≡ Err (fault-at p)
 
@@ -78,18 +78,16 @@ module _ (ar : Meaning) (pages : List ℕ) (s : Stand) where
   tells-action (Combine op a b) n = refl
   tells-action (Skip a b) n = refl
 
-  pub check-tells : (st : Step) → Tells (takes ar pages st s) (checked (length pages) (page-needed (Some st) s))
+  check-tells : (st : Step) → Tells (takes ar pages st s) (checked (length pages) (page-needed (Some st) s))
   check-tells st = tells-action (st .action) (st .operand)
 
--- a step that the check turned away
-pub stopped : (b : Table) (to : Stand → Engine) (k : Taken) (f : StoreFault) → Tells k (Err f) → Stepped b to k (Err f) b
-stopped b to (moved e) f h = let z : _≡_ {A = ℕ} 0 1 = cc in absurd (omega arith)
-stopped b to (off-pages p) f h = (h, refl)
-
 -- a step that the check let through
-pub passed : (k : Taken) (r : Result (Unit {0}) StoreFault) → Tells k r → r ≡ Ok tt → (e : Stand) × (k ≡ moved e)
-passed (moved e) r h ok = (e, refl)
-passed (off-pages p) r h ok = let z : _≡_ {A = ℕ} 0 1 = cc in absurd (omega arith)
+pub passed : (ar : Meaning) (pages : List ℕ) (s : Stand) (st : Step) (r : Result (Unit {0}) StoreFault) (ok : Unit {0}) → r ≡ checked (length pages) (page-needed (Some st) s) → r ≡ Ok ok → (e : Stand) × (takes ar pages st s ≡ moved e)
+passed ar pages s st r ok told was = go (takes ar pages st s) (check-tells ar pages s st)
+  where
+    go : (k : Taken) → Tells k (checked (length pages) (page-needed (Some st) s)) → (e : Stand) × (k ≡ moved e)
+    go (moved e) h = (e, refl)
+    go (off-pages p) h = let z : _≡_ {A = ℕ} 0 1 = cc in absurd (omega arith)
 
 ok-not-err : {A : Type 0} (r : Result (Unit {0}) StoreFault) (x : Unit {0}) (f : StoreFault) → r ≡ Ok x → r ≡ Err f → A
 ok-not-err r x f h k = let z : _≡_ {A = ℕ} 0 1 = cc in absurd (omega arith)
@@ -118,7 +116,7 @@ module _ (b m : Table) (t : ℕ) (st : Step) (s : Stand) (o : Option ℕ) (there
   lead-moved (moved e) r x y ok w read h was after write = (
     refl,
     after ∙ ap (λ (q : Engine). after-step q t w) (h .1 ∙ ap (λ (q : Engine). with-shadow q t t (Some e)) (before ∙ ap (before-step (engine-of b) t) read))
-    ∙ ap (after-step (with-shadow (before-step (engine-of b) t (store-read (Some st) s)) t t (Some e)) t) write,
+        ∙ ap (after-step (with-shadow (before-step (engine-of b) t (store-read (Some st) s)) t t (Some e)) t) write,
   )
   lead-moved (off-pages p) r x y ok w read h was after write = ok-not-err r ok (fault-at p) was (h .0)
 

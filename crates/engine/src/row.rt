@@ -64,9 +64,7 @@ impl Row {
     pub(crate) fn new() -> Row
         ensures { λ r. ⌜ row-of r ≡ no-shadows ⌝ }
     {
-        Row {
-            entries: [None; 8],
-        }
+        Row { entries: [None; 8] }
     }
 
     pub(crate) fn get(&self, u: usize) -> Option<Shadow>

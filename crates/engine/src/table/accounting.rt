@@ -102,7 +102,9 @@ impl Table {
         requires { ⌜ t < 8 ⌝ ∗ ⌜ v < 8 ⌝ }
         ensures { λ r. ⌜ r ≡ write-conflict (engine-of (now (self .entry))) t page v ⌝ }
     {
-        v != t && self.is_open(v) && self.shadow_has_read(v, v, page)
+        v != t
+            && self.is_open(v)
+            && self.shadow_has_read(v, v, page)
             && (self.shadow(v, t).is_none() || self.shadow_has_read(v, t, page))
     }
 

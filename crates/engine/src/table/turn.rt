@@ -43,7 +43,11 @@ fn check_step<R: Reader>(shadow: &Shadow, step: Step, reader: &R) -> Result<(), 
 }
 
 // A store's fault beside the slot and the step.
-fn tell(slot: u32, step: usize, result: Result<(), StoreFault>) -> Result<(), (u32, usize, StoreFault)>
+fn tell(
+    slot: u32,
+    step: usize,
+    result: Result<(), StoreFault>,
+) -> Result<(), (u32, usize, StoreFault)>
     ensures { λ r. ⌜ r ≡ told slot step result ⌝ }
 {
     match result {
@@ -84,13 +88,7 @@ impl Table {
     }
 
     // What the next turn of t's shadow for u finds.
-    pub(crate) fn standing(
-        &self,
-        t: usize,
-        u: usize,
-        script: &Script,
-        shadow: &Shadow,
-    ) -> Standing
+    pub(crate) fn standing(&self, t: usize, u: usize, script: &Script, shadow: &Shadow) -> Standing
         requires { ⌜ t < 8 ⌝ ∗ ⌜ u < 8 ⌝ }
         ensures { λ r. ⌜ r ≡ stands (engine-of (now (self .entry))) t u (steps-of (now (script .entry))) (stand-of (now (shadow .entry))) ⌝ }
     {

@@ -1,7 +1,6 @@
-use mathlib.Core.Path.{_∙_, sym}
 use Rattle.serial.specs.Machine.{takes}
 use Rattle.engine.specs.View.{stand-of}
-use Rattle.engine.proofs.Turns.{check-tells, passed, never-stops, lead-there, lead-room, lead-stepped, lead-moved}
+use Rattle.engine.proofs.Turns.{passed, never-stops, lead-there, lead-room, lead-stepped, lead-moved}
 use Rattle.engine.proofs.table.Table.step_lead.Needs as need
 
 pub step-requires : need.step-requires
@@ -23,7 +22,7 @@ returns-in-Break-step g c =
     let m = c .before-step .last .self in
     let s = stand-of (c .args .lead .now) in
     let k = takes ar pages (c .args .step .now) s in
-    let goes = passed k _ (check-tells ar pages s (c .args .step .now)) (sym (c .check-step .ensures) ∙ c .in-Continue-check-step .was tt) in
+    let goes = passed ar pages s (c .args .step .now) (c .check-step .result) (c .in-Continue-check-step .field-0) (c .check-step .ensures) (c .in-Continue-check-step .was tt) in
     let h = lead-stepped b m (c .args .t) (c .args .step .now) s (c .store-read .result) (c .pre .there) (c .before-step .ensures) ar pages (c .step .result) (c .step .last .self) (c .step .ensures) in
     never-stops m (c .step .last .self) _ k (c .step .result) (c .in-Break-step .field-0 .0) (goes .0) (goes .1) h (c .in-Break-step .was tt)
 
