@@ -65,7 +65,7 @@ abbrev pub checked : ℕ → Option ℕ → Result (Unit {0}) StoreFault
 checked n None = Ok tt
 checked n (Some p) = cond (ltb p n) (Ok tt) (Err (fault-at p))
 
--- the leading shadow takes the step st from s to e, with the accounting before and after it
+-- the leading shadow takes the step st from s to `to`, with the accounting before and after it
 abbrev pub lead-takes : Engine → ℕ → Step → Stand → Stand → Engine
 lead-takes e t st s to =
     after-step (with-shadow (before-step e t (store-read (Some st) s)) t t (Some to)) t (write-of (Some st) s)

@@ -1,7 +1,7 @@
 // The table of shadows: a row for each slot, and the scripts of the open slots.
 ghost use mathlib.Core.Path.{_≡_};
 ghost use Prim.Native.Nat.{_<_};
-ghost use Rattle.std.specs.Options.{mapped};
+ghost use Rattle.std.specs.Options.{mapped, Cases as BySome};
 ghost use Rattle.std.specs.declared.option.Option.the-variants.{Some, None};
 ghost use Rattle.script.specs.View.{steps-of};
 ghost use Rattle.serial.specs.Rules.{fresh-engine, script-of, is-open, row as row-at, shadow as shadow-at, with-shadow, first-open as lowest-open, begun, closed, renew, committed};
@@ -62,7 +62,8 @@ impl Table {
 
     // The lowest open slot.
     pub(crate) fn first_open(&self) -> Option<usize>
-        ensures { λ r. ⌜ r ≡ lowest-open 0 (engine-of (now (self .entry)) .scripts) ⌝ }
+        ensures lowest { λ r. ⌜ r ≡ lowest-open 0 (engine-of (now (self .entry)) .scripts) ⌝ }
+        ensures within { λ r. ⌜ BySome r (Unit {0}) (λ t. t < 8) ⌝ }
     {
         let all = &self.scripts[..];
         for (t, script) in all.iter().enumerate() {
