@@ -1,18 +1,22 @@
 -- Turns of the searches through read sets and own lists. Assumes nothing.
-use mathlib.Core.Path.{_≡_, sym, ap, _∙_}
+use mathlib.Core.Path.{_≡_, refl, sym, ap, _∙_}
 use mathlib.Core.Bool.{true, false, _||_}
+use mathlib.Core.Logic.{⊎-elim}
 use mathlib.Core.List.{List, [], _∷_, _++_}
 use Prim.Native.Nat.{ℕ, _+_, _<_, _≤_}
 use native.Mathlib.Numerals.{add-one}
 use lib.Dec.{eqb}
 use lib.ListN.{length, getD, set, take, drop}
+use Rattle.std.specs.Options.{isSome}
+use Rattle.std.specs.declared.option.Option.{Option}
 use Rattle.std.specs.declared.option.Option.the-variants.{Some, None}
 use Rattle.std.proofs.shelf.Lists.{at-drop-more, at-drop-all, take-more, take-all, set-split, append-assoc}
-use Rattle.std.proofs.shelf.Tests.{eq-eqb, ne-eqb, cond-true, cond-false, or-left}
+use Rattle.std.proofs.shelf.Tests.{cases-bool, eq-eqb, ne-eqb, cond-true, cond-false, or-left}
 use Rattle.pages.specs.Pages.{entry}
 use Rattle.pages.specs.declared.WriteEntry.{WriteEntry}
 use Rattle.serial.specs.declared.ReadEntry.{ReadEntry}
 use Rattle.serial.specs.Machine.{written, write, has-read, has-written, has-read-any}
+use Rattle.engine.specs.View.{Placed}
 
 -- what stands past the end
 abbrev pub no-read : ReadEntry
@@ -91,3 +95,17 @@ module _ (rs : List ReadEntry) (i : ℕ) (low : i < length rs) where
   pub read-any-past : (es : List WriteEntry) → has-written es (getD rs i no-read .page) ≡ false → has-read-any (drop i rs) es ≡ has-read-any (drop (i + 1) rs) es
   read-any-past es h =
       at-drop-more (λ xs. has-read-any xs es) rs i no-read low ∙ ap (λ b. b || has-read-any (drop (i + 1) rs) es) h
+
+-- a page stands on the list where it has a word there
+written-is : (es : List WriteEntry) (p : ℕ) → isSome (written es p) ≡ has-written es p
+written-is [] p = refl
+written-is (e ∷ es) p =
+    let rest = written-is es p in
+    ⊎-elim
+    (λ (h : eqb (e .page) p ≡ true). ap isSome (cond-true (eqb (e .page) p) (Some (e .word)) (written es p) h) ∙ sym (or-left (eqb (e .page) p) (has-written es p) h))
+    (λ (h : eqb (e .page) p ≡ false). ap isSome (cond-false (eqb (e .page) p) (Some (e .word)) (written es p) h) ∙ rest ∙ sym (ap (λ b. b || has-written es p) h))
+    (cases-bool (eqb (e .page) p))
+
+pub placed-is : (es : List WriteEntry) (p : ℕ) (o : Option ℕ) → Placed es p o → isSome o ≡ has-written es p
+placed-is es p None h = sym (ap isSome (h .0)) ∙ written-is es p
+placed-is es p (Some i) h = sym (ap isSome (h .1)) ∙ written-is es p

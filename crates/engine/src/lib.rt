@@ -1,6 +1,8 @@
 // The engine: shadows, and scripts that they run.
 mod alone;
+mod row;
 mod shadow;
+mod table;
 
 pub use alone::AloneFault;
 pub use alone::AloneFaultDebug;

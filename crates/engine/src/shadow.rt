@@ -1,6 +1,6 @@
 // A shadow: how far a script has come on its own, over pages that it does not change.
 ghost use mathlib.Core.Path.{_≡_};
-ghost use Rattle.serial.specs.Machine.{start as started, index, holds, written as word-written, has-read, has-read-any, indexed, page-read, page-written, store-read, write-of};
+ghost use Rattle.serial.specs.Machine.{start as started, index, holds, written as word-written, has-read, has-written, has-read-any, indexed, page-read, page-written, store-read, write-of};
 ghost use Rattle.engine.specs.View.{stand-of, Placed};
 use basics::Trail;
 use pages::WriteEntry;
@@ -40,6 +40,13 @@ fn place(own: &[WriteEntry], page: u32) -> Option<usize>
         }
     }
     None
+}
+
+// Whether a page stands on an own list.
+pub(crate) fn has_written(own: &[WriteEntry], page: u32) -> bool
+    ensures { λ r. ⌜ r ≡ has-written (now (own .entry)) page ⌝ }
+{
+    place(own, page).is_some()
 }
 
 impl Shadow {
