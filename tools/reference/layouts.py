@@ -1,5 +1,6 @@
 #!/usr/bin/env python3
-"""Writes a scenario of sound and damaged layouts: images, logs and flat stores, with puts and loads over them.
+"""Writes a scenario of sound and damaged layouts: images, logs and flat stores, with puts and loads over them, and
+scripts, run alone over them.
 
 Usage: layouts.py > crates/gorsepick/stdin
 """
@@ -256,6 +257,162 @@ def kept():
     command("arithmetic", "counters")
 
 
+# The actions of steps.
+READ, READ_INDEXED, WRITE, WRITE_INDEXED, SET, COMBINE, SKIP = range(7)
+
+
+def script(*steps):
+    """The bytes of steps, each an action, register a, register b and an operand."""
+    codes = "".join(f"{action << 4 | a << 2 | b:02x}" for action, a, b, _ in steps)
+    return f"{len(steps):02x}" + codes + numbers(*(operand for _, _, _, operand in steps))
+
+
+A = script((READ, 0, 0, 0), (SET, 1, 0, 5), (COMBINE, 0, 1, 0), (WRITE, 0, 0, 0))
+B = script((READ, 0, 0, 1), (READ, 1, 0, 0), (COMBINE, 0, 1, 0), (WRITE, 0, 0, 2))
+
+SMALL_STORES = (
+    ["flat", 10, 20, 30],
+    ["log"] + log(3, 2, 0, base=[10, 20, 30]),
+    ["log"] + log(3, 2, 2, base=[1, 20, 3], pages=[2, 0], words=[30, 10]),
+    ["log"] + log(3, 1, 1, base=[10, 20, 3], pages=[2], words=[30]),
+)
+
+
+def tried(digits):
+    """Runs these bytes alone under a passing name."""
+    command("script", "tried", digits) if digits else command("script", "tried")
+    command("alone", "tried")
+
+
+def alone_pairs():
+    note("A, then B, alone, over each kind of store and with both arithmetics")
+    command("script", "A", A)
+    command("script", "B", B)
+    for arithmetic in ("counters", "flags"):
+        command("arithmetic", arithmetic)
+        for store in SMALL_STORES:
+            for names in ("A", "B", "AB", "BA", "ABAB"):
+                command(*store)
+                for name in names:
+                    command("alone", name)
+                    command("pages")
+                command("words")
+    command("arithmetic", "counters")
+
+
+def alone_operations():
+    note("every operation of both arithmetics")
+    for arithmetic in ("counters", "flags"):
+        command("arithmetic", arithmetic)
+        for operation in range(3):
+            both = script((READ, 0, 0, 0), (READ, 3, 0, 1), (COMBINE, 0, 3, operation), (WRITE, 0, 0, 2))
+            for words in ((12, 10), (10, 12), (TOP, 1), (0, 1), (TOP, TOP), (2**31, 2**31), (7, 0)):
+                command("flat", *words, 0)
+                tried(both)
+                command("pages")
+    command("arithmetic", "counters")
+
+
+def alone_faults():
+    note("faults at a read and at a write; nothing is put")
+    some = [(SET, 1, 0, 2), (WRITE, 1, 0, 0), (WRITE, 1, 0, 1)]
+    for store in SMALL_STORES:
+        command(*store)
+        for step in (
+            (READ, 0, 0, 2),
+            (READ, 0, 0, 3),
+            (READ, 0, 0, TOP),
+            (READ_INDEXED, 0, 1, 0),
+            (READ_INDEXED, 0, 1, 1),
+            (READ_INDEXED, 0, 1, TOP),
+            (READ_INDEXED, 0, 1, TOP - 1),
+            (READ_INDEXED, 0, 1, TOP - 2),
+            (WRITE, 1, 0, 3),
+            (WRITE, 1, 0, TOP),
+            (WRITE_INDEXED, 1, 1, 1),
+            (WRITE_INDEXED, 1, 1, TOP - 2),
+            (WRITE_INDEXED, 1, 1, TOP - 1),
+        ):
+            tried(script(step))
+            tried(script(*some, step))
+            tried(script(*some, step, (SET, 0, 0, 9)))
+            command("words")
+    note("stores of size 0")
+    for store in (["flat"], ["log", 1, 1, 2, 7, 0, 8]):
+        command(*store)
+        for digits in (A, B, script((SET, 0, 0, 6)), script((WRITE, 0, 0, 0)), script((SKIP, 0, 1, 1), (READ, 0, 0, 0))):
+            tried(digits)
+        command("words")
+
+
+def alone_lists():
+    note("a page stands once on the list, in order of first write, with its latest word, and is read from there")
+    writes = (
+        [(SET, 0, 0, 7), (WRITE, 0, 0, 2), (SET, 0, 0, 8), (WRITE, 0, 0, 0), (SET, 0, 0, 9), (WRITE, 0, 0, 2)],
+        [(SET, 1, 0, 6), (WRITE, 1, 0, 1), (READ, 0, 0, 1), (COMBINE, 0, 1, 0), (WRITE, 0, 0, 1), (READ, 0, 0, 1)],
+        [(SET, 2, 0, 1), (WRITE_INDEXED, 2, 2, 1), (READ_INDEXED, 0, 2, 1), (READ, 3, 0, 0), (WRITE_INDEXED, 3, 0, TOP)],
+        [(WRITE, 0, 0, 0), (WRITE, 0, 0, 1), (WRITE, 0, 0, 2)],
+        [(READ, 0, 0, 0), (WRITE, 0, 0, 0)],
+        [(SET, 0, 0, 3)] + [(WRITE, 0, 0, page % 3) for page in range(15)],
+    )
+    for store in SMALL_STORES:
+        for steps in writes:
+            command(*store)
+            tried(script(*steps))
+            command("pages")
+            command("words")
+
+
+def alone_skips():
+    note("steps left out: none, one, all that follow; from the first and from a later step")
+    command("flat", 10, 20, 30)
+    for word in (0, 1):
+        for left_out in (1, 2, 3):
+            tried(script((SET, 1, 0, word), (SKIP, 0, 1, left_out), (SET, 0, 0, 4), (WRITE, 0, 0, 1), (READ, 2, 0, 3)))
+            command("pages")
+    tried(script((SKIP, 0, 0, 15), *[(READ, 0, 0, 9)] * 15))
+    tried(script((SET, 0, 0, 1), (SKIP, 0, 1, 14), *[(SET, 0, 0, 2)] * 14))
+    tried(script((SKIP, 0, 1, 1), (SET, 0, 0, 5), (SKIP, 0, 1, 1), (SET, 0, 0, 6)))
+
+
+def damaged_scripts():
+    note("bytes of no fit size or length")
+    command("flat", 10, 20, 30)
+    sets = lambda count: script(*[(SET, 0, 0, index) for index in range(count)])
+    for digits in ("", "00", "01", "0040", "11", "ff", sets(1), sets(15), sets(16), sets(17), sets(255)):
+        tried(digits)
+    for digits in (A, sets(1), sets(16)):
+        for damaged in (digits[:-2], digits + "00", digits[2:], "03" + digits[2:], "00" + digits[2:], "11" + digits[2:]):
+            tried(damaged)
+    note("steps that are not defined: the first is told")
+    for action in range(16):
+        for a, b in ((0, 0), (1, 2), (3, 3), (2, 1)):
+            for operand in (0, 1, 2, 3, TOP):
+                tried(script((action, a, b, operand), (SET, 0, 0, 1)))
+    for first in (1, 4, 15):
+        steps = [(SET, 0, 0, index) for index in range(16)]
+        steps[first] = (7, 0, 0, 0)
+        tried(script(*steps))
+        steps[15] = (COMBINE, 0, 0, 3)
+        tried(script(*steps))
+    for operand in (0, 1, 13, 14, 15, 16, TOP):
+        tried(script((SKIP, 0, 1, operand), *[(SET, 1, 0, 1)] * 15))
+        tried(script((SET, 0, 0, 1), (SKIP, 0, 1, operand), *[(SET, 1, 0, 1)] * 14))
+    command("pages")
+
+
+def named_again():
+    note("a name given again names the later bytes from there on")
+    command("flat", 10, 20, 30)
+    command("script", "again", A)
+    command("alone", "again")
+    command("script", "again", "04 00 04 51 20", numbers(1, 0), numbers(0, 2))
+    command("alone", "again")
+    command("script", "again")
+    command("alone", "again")
+    command("pages")
+
+
 def layouts():
     """Every group in its turn; the last leaves a store of moderate size for the summary."""
     cut_images()
@@ -270,6 +427,13 @@ def layouts():
     long_logs()
     loads()
     kept()
+    alone_pairs()
+    alone_operations()
+    alone_faults()
+    alone_lists()
+    alone_skips()
+    damaged_scripts()
+    named_again()
     puts()
 
 

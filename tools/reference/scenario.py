@@ -3,15 +3,20 @@
 
 Usage: scenario.py [FILE]    without FILE it reads standard input
 
-It follows the rules of stores, images and loading as the subject has them, and shares no code with the program.
+It follows the rules of stores, images, loading and scripts as the subject has them, and shares no code with the program.
 """
 import sys
 
 MOST_PAGES = 4096
+WORDS = 2**32
+OPERATIONS = {
+    "counters": (lambda a, b: (a + b) % WORDS, lambda a, b: (a - b) % WORDS, max),
+    "flags": (lambda a, b: a & b, lambda a, b: a | b, lambda a, b: a ^ b),
+}
 
 
 class Fault(Exception):
-    """No page has this number."""
+    """No page has this number; a script's step comes first, where one came to it."""
 
 
 class Refused(Exception):
@@ -109,6 +114,63 @@ def load(store, data):
         store.put(page, word)
 
 
+def is_defined(action, b, operand, index, count):
+    """Whether step `index` of `count` is one that scripts may have."""
+    if action in (0, 2, 4):
+        return b == 0
+    if action == 5:
+        return operand <= 2
+    if action == 6:
+        return 1 <= operand <= 15 and index + 1 + operand <= count
+    return action < 6
+
+
+def decode(data):
+    """The steps of a script: action, register a, register b and operand."""
+    if not data or not 1 <= data[0] <= 16 or len(data) != 1 + 5 * data[0]:
+        raise Refused(5, len(data))
+    count = data[0]
+    operands = data[1 + count:]
+    steps = []
+    for index, code in enumerate(data[1:1 + count]):
+        action, a, b = code >> 4, code >> 2 & 3, code & 3
+        operand = int.from_bytes(operands[4 * index:4 * index + 4], "big")
+        if not is_defined(action, b, operand, index, count):
+            raise Refused(6, index)
+        steps.append((action, a, b, operand))
+    return steps
+
+
+def run_alone(steps, store, operations):
+    """Runs steps over the store's pages, then puts what they wrote; register 0 and the number of pages put."""
+    pages = store.pages()
+    registers = [0, 0, 0, 0]
+    written = {}
+    at = 0
+    while at < len(steps):
+        action, a, b, operand = steps[at]
+        page = (operand + registers[b]) % WORDS if action in (1, 3) else operand
+        left_out = 0
+        if action in (0, 1):
+            if page not in written and page >= len(pages):
+                raise Fault(at, page)
+            registers[a] = written[page] if page in written else pages[page]
+        elif action in (2, 3):
+            if page >= len(pages):
+                raise Fault(at, page)
+            written[page] = registers[a]
+        elif action == 4:
+            registers[a] = operand
+        elif action == 5:
+            registers[a] = operations[operand](registers[a], registers[b])
+        elif registers[a] == registers[b]:
+            left_out = operand
+        at += 1 + left_out
+    for page, word in written.items():
+        store.put(page, word)
+    return registers[0], len(written)
+
+
 def number_of(word):
     """A scenario's number; one that is out of range would not be a sound scenario."""
     if not (word.isascii() and word.isdigit() and int(word) < 2**32):
@@ -123,14 +185,22 @@ def listed(heading, numbers):
 class Host:
     def __init__(self):
         self.store = None
+        self.operations = OPERATIONS["counters"]
+        self.scripts = {}
 
     def answer(self, name, words):
         if name in ("flat", "log"):
             kind = FlatStore if name == "flat" else LogStore
             self.store = kind([number_of(word) for word in words])
             return f"size {len(self.store.pages())}"
-        if name in ("arithmetic", "script"):
+        if name == "arithmetic":
+            self.operations = OPERATIONS[words[0]]
             return None
+        if name == "script":
+            self.scripts[words[0]] = bytes.fromhex("".join(words[1:]))
+            return None
+        if name == "alone":
+            return listed("answered", run_alone(decode(self.scripts[words[0]]), self.store, self.operations))
         if name == "get":
             page = number_of(words[0])
             pages = self.store.pages()
@@ -161,7 +231,7 @@ def carry_out(text):
         try:
             answer = host.answer(words[0], words[1:])
         except Fault as fault:
-            answer = f"fault {fault.args[0]}"
+            answer = listed("fault", fault.args)
         except Refused as refusal:
             answer = listed("refused", refusal.numbers)
         if answer is not None:

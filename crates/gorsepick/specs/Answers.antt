@@ -15,8 +15,13 @@ use Rattle.pages.specs.Load.{ImageLoaded, image-load-cause, image-load-returned
 use Rattle.pages.specs.declared.StoreFault.{StoreFault}
 use Rattle.pages.specs.declared.fault.ImageFault.{ImageFault}
 use Rattle.pages.specs.declared.fault.ImageLoadFault.{ImageLoadFault}
+use Rattle.script.specs.Script.{decoded, script-cause, script-returned}
+use Rattle.serial.specs.Machine.{Meaning}
+use Rattle.engine.specs.Alone.{RanAlone}
+use Rattle.engine.specs.declared.alone.AloneFault.{AloneFault}
+use Rattle.engine.specs.declared.alone.AloneFault.the-variants.{Script, Step}
 use Rattle.gorsepick.specs.declared.answer.Answer.{Answer}
-use Rattle.gorsepick.specs.declared.answer.Answer.the-variants.{Size, Word, Fault, Written, Pages, Loaded, Refused}
+use Rattle.gorsepick.specs.declared.answer.Answer.the-variants.{Size, Word, Fault, Written, Pages, Loaded, Finished, Stopped, Refused}
 use Rattle.gorsepick.specs.declared.command.Request.{Request}
 use Rattle.gorsepick.specs.declared.command.Request.the-variants as asked
 
@@ -45,7 +50,13 @@ abbrev pub LoadAnswer : Result (Unit {0}) ImageLoadFault → Answer → Type 0
 LoadAnswer (Ok x) a = a ≡ Loaded
 LoadAnswer (Err f) a = Refuses (image-load-cause f) (image-load-returned f) a
 
-module _ {S : Type 0} (pages : S → List ℕ) (wrote : S → ℕ → ℕ → S → Type 0) where
+-- a run alone: register 0 and the number of pages put, or the step and the page that is not there
+abbrev pub AloneAnswer : Result (ℕ × ℕ) AloneFault → Answer → Type 0
+AloneAnswer (Ok (word, count)) a = a ≡ Finished word count
+AloneAnswer (Err (Script f)) a = Refuses (script-cause f) (script-returned f) a
+AloneAnswer (Err (Step n f)) a = a ≡ Stopped n (f .page)
+
+module _ {S : Type 0} (pages : S → List ℕ) (wrote : S → ℕ → ℕ → S → Type 0) (ar : Meaning) where
   -- a request took the store s to t and was answered a
   abbrev pub Answered : Request → S → Answer → S → Type 0
   Answered asked.Size s a t = (a ≡ Size (length (pages s))) × (t ≡ s)
@@ -55,3 +66,5 @@ module _ {S : Type 0} (pages : S → List ℕ) (wrote : S → ℕ → ℕ → S 
   Answered asked.Pages s a t = Shows (pages s) a × (t ≡ s)
   Answered (asked.Load bytes) s a t =
       (o : Result (Unit {0}) ImageLoadFault) × ImageLoaded pages wrote (vec-items bytes) s o t × LoadAnswer o a
+  Answered (asked.Alone bytes) s a t =
+      (o : Result (ℕ × ℕ) AloneFault) × RanAlone pages wrote ar s (decoded (vec-items bytes)) o t × AloneAnswer o a

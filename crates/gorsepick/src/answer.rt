@@ -24,6 +24,10 @@ pub(crate) enum Answer {
     Pages(Vec<u32>),
     Words(Vec<u32>),
     Loaded,
+    // a script run alone came to its end: register 0, and the number of pages put
+    Finished { word: u32, pages: usize },
+    // a script run alone came to a step for a page that is not there
+    Stopped { step: usize, page: u32 },
     Refused { number: u32, values: Vec<usize> },
 }
 
@@ -34,7 +38,10 @@ impl Answer {
 
     // Whether the call was declined.
     pub(crate) fn is_declined(&self) -> bool {
-        matches!(self, Answer::Fault { .. } | Answer::Refused { .. })
+        matches!(
+            self,
+            Answer::Fault { .. } | Answer::Stopped { .. } | Answer::Refused { .. }
+        )
     }
 }
 
@@ -78,6 +85,8 @@ pub(crate) impl fmt::Display for Answer as AnswerDisplay {
             Answer::Pages(pages) => show_list(f, "pages", pages.as_slice()),
             Answer::Words(words) => show_list(f, "words", words.as_slice()),
             Answer::Loaded => f.write_str("loaded"),
+            Answer::Finished { word, pages } => write!(f, "answered {word} {pages}"),
+            Answer::Stopped { step, page } => write!(f, "fault {step} {page}"),
             Answer::Refused { number, values } => {
                 write!(f, "refused {number}")?;
                 show_list(f, "", values.as_slice())

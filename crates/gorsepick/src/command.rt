@@ -13,7 +13,8 @@ pub(crate) enum Command {
     Flat(Vec<u32>),
     Log(Vec<u32>),
     Arithmetic(Delivered),
-    Script { name: String, bytes: Vec<u8> },
+    // its bytes are kept as the scenario is read
+    Script,
     Image(Vec<u8>),
     Words,
     Ask(Request),
@@ -27,6 +28,8 @@ pub(crate) enum Request {
     Put { page: u32, word: u32 },
     Pages,
     Load(Vec<u8>),
+    // the bytes of a script, to be run alone
+    Alone(Vec<u8>),
 }
 
 impl Command {

@@ -16,6 +16,7 @@ pub(crate) enum Mistake {
     NoDigits(String),
     OddDigits,
     NoStore,
+    NoScript(String),
 }
 
 #[derive(Drop)]
@@ -86,6 +87,10 @@ pub(crate) impl fmt::Display for Mistake as MistakeDisplay {
             ),
             Mistake::NoStore => f.write_str(
                 "no store yet; expected flat or log on an earlier line",
+            ),
+            Mistake::NoScript(name) => write!(
+                f,
+                "no such script: {name}; expected a name that an earlier script line gave"
             ),
         }
     }

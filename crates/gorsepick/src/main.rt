@@ -27,7 +27,7 @@ gorsepick --help  prints this
 
 A scenario is text, a command a line, words parted by spaces. # starts a comment,
 and blank lines are passed over. P and W are decimal numbers, 0 to 4294967295; BYTES
-are hexadecimal digits, two a byte, with or without spaces between them.
+are hexadecimal digits, two a byte, with or without spaces between them; NAME is any word.
 
   flat W...            takes these words as a flat store
   log W...             takes these words as the memory of a log store
@@ -39,10 +39,13 @@ are hexadecimal digits, two a byte, with or without spaces between them.
   words                shows the words of the memory behind the store
   image BYTES          reads a page image
   load BYTES           loads a page image into the store
+  alone NAME           runs a script alone over the store, and puts what it has written
 
 Each command prints its words, an arrow and its answer; arithmetic and script print nothing.
-A page that is not there is answered by fault P, and bytes that are no image, or do not
-fit the store, by refused and the numbers of the refusal. A summary ends the output.
+A page that is not there is answered by fault P, or by fault STEP P where a script came to
+it; bytes that are no script or no image, or that do not fit the store, by refused and the
+numbers of the refusal. A script that ran to its end is answered by answered R N: what
+register 0 holds, and how many pages were put. A summary ends the output.
 
 The whole scenario is checked before any of it is carried out. The status is 0 when it
 was carried out, and 1 when a line is wrong or the scenario cannot be read; the reason

@@ -16,17 +16,22 @@ use crate::text::parse_numbers;
 use arithmetic::Delivered;
 use std::alloc::AllocError;
 use std::alloc::Global;
+use std::collections::BTreeMap;
 
 // What the lines so far have given, which later lines may need.
 #[derive(Drop)]
 struct Given {
     store: bool,
+    scripts: BTreeMap<String, Vec<u8>>,
 }
 
 // The commands of a scenario, or the first line that is none. Nothing is carried out before all lines are sound.
 pub(crate) fn parse_scenario(heap: Global, text: &str) -> Result<Vec<Line>, Failure> {
     let mut lines = Vec::new(heap);
-    let mut given = Given { store: false };
+    let mut given = Given {
+        store: false,
+        scripts: BTreeMap::new(heap),
+    };
     for (index, line) in text.lines().enumerate() {
         match parse_line(heap, line, &mut given) {
             Ok(Some(line)) => lines.push(line)?,
@@ -50,19 +55,12 @@ fn parse_line(heap: Global, line: &str, given: &mut Given) -> Result<Option<Line
     let [name, rest @ ..] = words.as_slice() else {
         return Ok(None);
     };
-    let command = parse_command(heap, name, rest)?;
+    let command = parse_command(heap, name, rest, given)?;
     if command.needs_store() && !given.store {
         return Err(Mistake::NoStore);
     }
-    note_given(&command, given);
     let text = join(heap, words.as_slice())?;
     Ok(Some(Line { text, command }))
-}
-
-fn note_given(command: &Command, given: &mut Given) {
-    if matches!(command, Command::Flat(_) | Command::Log(_)) {
-        given.store = true;
-    }
 }
 
 // The words parted by single spaces.
@@ -77,12 +75,18 @@ fn join(heap: Global, words: &[&str]) -> Result<String, AllocError> {
     Ok(text)
 }
 
-fn parse_command(heap: Global, name: &str, words: &[&str]) -> Result<Command, Mistake> {
+// The command of a line, and what it gives to later lines.
+fn parse_command(
+    heap: Global,
+    name: &str,
+    words: &[&str],
+    given: &mut Given,
+) -> Result<Command, Mistake> {
     match name {
-        "flat" => Ok(Command::Flat(parse_numbers(heap, words)?)),
-        "log" => Ok(Command::Log(parse_numbers(heap, words)?)),
+        "flat" => Ok(Command::Flat(parse_store(heap, words, given)?)),
+        "log" => Ok(Command::Log(parse_store(heap, words, given)?)),
         "arithmetic" => parse_arithmetic(heap, words),
-        "script" => parse_script(heap, words),
+        "script" => parse_script(heap, words, given),
         "get" => parse_get(heap, words),
         "put" => parse_put(heap, words),
         "pages" => {
@@ -95,6 +99,7 @@ fn parse_command(heap: Global, name: &str, words: &[&str]) -> Result<Command, Mi
         }
         "image" => Ok(Command::Image(parse_bytes(heap, words)?)),
         "load" => Ok(Command::Ask(Request::Load(parse_bytes(heap, words)?))),
+        "alone" => parse_alone(heap, words, given),
         _ => Err(Mistake::NoCommand(String::from_str(heap, name)?)),
     }
 }
@@ -121,13 +126,33 @@ fn parse_arithmetic(heap: Global, words: &[&str]) -> Result<Command, Mistake> {
     }
 }
 
-fn parse_script(heap: Global, words: &[&str]) -> Result<Command, Mistake> {
+fn parse_store(heap: Global, words: &[&str], given: &mut Given) -> Result<Vec<u32>, Mistake> {
+    given.store = true;
+    parse_numbers(heap, words)
+}
+
+fn parse_script(heap: Global, words: &[&str], given: &mut Given) -> Result<Command, Mistake> {
     let [name, digits @ ..] = words else {
         return Err(Mistake::TooFew("script NAME BYTES"));
     };
     let name = String::from_str(heap, name)?;
     let bytes = parse_bytes(heap, digits)?;
-    Ok(Command::Script { name, bytes })
+    given.scripts.insert(name, bytes)?;
+    Ok(Command::Script)
+}
+
+// The bytes that the last line before this one gave the name to.
+fn script_bytes(heap: Global, name: &str, given: &Given) -> Result<Vec<u8>, Mistake> {
+    match given.scripts.get(name) {
+        Some(bytes) => Ok(bytes.clone()?),
+        None => Err(Mistake::NoScript(String::from_str(heap, name)?)),
+    }
+}
+
+fn parse_alone(heap: Global, words: &[&str], given: &Given) -> Result<Command, Mistake> {
+    expect(words, 1, "alone NAME")?;
+    let bytes = script_bytes(heap, words[0], given)?;
+    Ok(Command::Ask(Request::Alone(bytes)))
 }
 
 fn parse_get(heap: Global, words: &[&str]) -> Result<Command, Mistake> {

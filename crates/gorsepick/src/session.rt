@@ -1,22 +1,29 @@
 // The host's side: the memory of the store, what the scenario keeps, and the commands carried out over them.
 ghost use mathlib.Core.Path.{_≡_};
-ghost use Prim.Native.Nat.{_<_};
+ghost use Prim.Native.Nat.{ℕ, _<_};
 ghost use lib.ListN.{length, getD};
 ghost use Rattle.std.specs.Of.Vec.{vec-items};
 ghost use Rattle.std.specs.Vec.{made};
 ghost use Rattle.std.specs.declared.result.Result.{Result};
+ghost use Rattle.arithmetic.specs.Words.{delivered};
 ghost use Rattle.pages.specs.Image.{image-fault};
 ghost use Rattle.pages.specs.Load.{ImageLoaded};
 ghost use Rattle.pages.specs.Pages.{word-at, Put};
 ghost use Rattle.pages.specs.declared.StoreFault.{StoreFault};
 ghost use Rattle.pages.specs.declared.fault.ImageLoadFault.{ImageLoadFault};
-ghost use Rattle.gorsepick.specs.Answers.{read-answer, put-answer, ShowsImage, LoadAnswer, Answered};
+ghost use Rattle.script.specs.Script.{decoded};
+ghost use Rattle.engine.specs.Alone.{RanAlone};
+ghost use Rattle.engine.specs.declared.alone.AloneFault.{AloneFault};
+ghost use Rattle.gorsepick.specs.Answers.{read-answer, put-answer, ShowsImage, LoadAnswer, AloneAnswer, Answered};
 ghost use Rattle.gorsepick.specs.Kinds.{store-pages};
 use crate::answer::Answer;
 use crate::answer::refused;
 use crate::command::Command;
 use crate::command::Request;
 use arithmetic::Delivered;
+use arithmetic::DeliveredArithmetic;
+use engine::AloneFault;
+use engine::run_alone;
 use pages::Flat;
 use pages::FlatReader;
 use pages::FlatStore;
@@ -30,9 +37,9 @@ use pages::LogStore;
 use pages::Reader;
 use pages::Store;
 use pages::load_image;
+use script::ScriptRefusal;
 use std::alloc::AllocError;
 use std::alloc::Global;
-use std::collections::BTreeMap;
 
 // How the words of the memory are to be read. Until a scenario gives some there are none, and they are no store.
 #[derive(Clone, Copy, PartialEq, Eq)]
@@ -47,7 +54,6 @@ pub(crate) struct Session {
     pub(crate) kind: Kind,
     words: Vec<u32>,
     arithmetic: Delivered,
-    scripts: BTreeMap<String, Vec<u8>>,
 }
 
 impl Session {
@@ -56,7 +62,6 @@ impl Session {
             kind: Kind::Absent,
             words: Vec::new(heap),
             arithmetic: Delivered::Counting,
-            scripts: BTreeMap::new(heap),
         }
     }
 
@@ -72,10 +77,7 @@ impl Session {
                 self.arithmetic = arithmetic;
                 Ok(Answer::Silent)
             }
-            Command::Script { name, bytes } => {
-                self.scripts.insert(name, bytes)?;
-                Ok(Answer::Silent)
-            }
+            Command::Script => Ok(Answer::Silent),
             Command::Image(bytes) => show_image(heap, bytes.as_slice()),
             Command::Words => Ok(Answer::Words(self.words.clone()?)),
             Command::Ask(request) => self.ask(heap, request),
@@ -106,18 +108,29 @@ impl Session {
     // Asks the store, whichever kind it is.
     fn ask(&mut self, heap: Global, request: Request) -> Result<Answer, AllocError> {
         match self.kind {
-            Kind::Log => answer(heap, &mut Log::new(self.words.as_mut_slice()), request),
+            Kind::Log => answer(
+                heap,
+                &mut Log::new(self.words.as_mut_slice()),
+                self.arithmetic,
+                request,
+            ),
             Kind::Flat | Kind::Absent => answer(
                 heap,
                 &mut Flat::new(self.words.as_mut_slice()),
+                self.arithmetic,
                 request,
             ),
         }
     }
 }
 
-fn answer<S: Store>(heap: Global, store: &mut S, request: Request) -> Result<Answer, AllocError>
-    ensures { λ r. ⌜ made r (λ a. Answered (S·Reader .pages) (S·Store .wrote) request (now (store .entry)) a (now (store .exit))) ⌝ }
+fn answer<S: Store>(
+    heap: Global,
+    store: &mut S,
+    arithmetic: Delivered,
+    request: Request,
+) -> Result<Answer, AllocError>
+    ensures { λ r. ⌜ made r (λ a. Answered (S·Reader .pages) (S·Store .wrote) (delivered arithmetic) request (now (store .entry)) a (now (store .exit))) ⌝ }
 {
     match request {
         Request::Size => Ok(Answer::Size(store.size())),
@@ -125,6 +138,7 @@ fn answer<S: Store>(heap: Global, store: &mut S, request: Request) -> Result<Ans
         Request::Put { page, word } => Ok(put(store, page, word)),
         Request::Pages => Ok(Answer::Pages(all_pages(heap, store)?)),
         Request::Load(bytes) => load(heap, store, bytes.as_slice()),
+        Request::Alone(bytes) => alone(heap, store, arithmetic, bytes.as_slice()),
     }
 }
 
@@ -152,6 +166,25 @@ fn load<S: Store>(heap: Global, store: &mut S, bytes: &[u8]) -> Result<Answer, A
     match load_image(bytes, store) {
         Ok(()) => Ok(Answer::Loaded),
         Err(fault) => refused(heap, &fault),
+    }
+}
+
+// Runs a script alone over the store.
+fn alone<S: Store>(
+    heap: Global,
+    store: &mut S,
+    arithmetic: Delivered,
+    bytes: &[u8],
+) -> Result<Answer, AllocError>
+    ensures { λ r. ⌜ made r (λ a. (o : Result (ℕ × ℕ) AloneFault) × RanAlone (S·Reader .pages) (S·Store .wrote) (delivered arithmetic) (now (store .entry)) (decoded (now (bytes .entry))) o (now (store .exit)) × AloneAnswer o a) ⌝ }
+{
+    match run_alone(bytes, store, &arithmetic) {
+        Ok((word, pages)) => Ok(Answer::Finished { word, pages }),
+        Err(AloneFault::Script(fault)) => refused(heap, &fault),
+        Err(AloneFault::Step { step, fault }) => Ok(Answer::Stopped {
+            step,
+            page: fault.page,
+        }),
     }
 }
 
