@@ -6,3 +6,6 @@ pub mod Turns
 pub mod Stands
 pub mod Puts
 pub mod Ends
+pub mod Kept
+pub mod Offs
+pub mod Called

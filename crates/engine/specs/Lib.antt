@@ -1,3 +1,4 @@
 pub mod View
 pub mod Alone
 pub mod Table
+pub mod Calls

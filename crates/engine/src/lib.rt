@@ -1,5 +1,6 @@
 // The engine: shadows, and scripts that they run.
 mod alone;
+mod engine;
 mod row;
 mod shadow;
 mod table;

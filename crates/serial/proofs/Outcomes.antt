@@ -110,20 +110,21 @@ ready-before-end e sound t u sc at script h ready =
     let o = ok-from e sound in
     ⊎-elim
     (λ (q : u ≡ t).
-      let w : cond (leb (length sc) (at .step)) AtEnd Ready ≡ Ready = sym (cond-true (eqb u t) (cond (leb (length sc) (at .step)) AtEnd Ready) (cond (waits e t u sc at) Halted Ready) (eq-eqb u t q)) ∙ ready in
-      leb-false (length sc) (at .step) (not-end (leb (length sc) (at .step)) w))
+    let w : cond (leb (length sc) (at .step)) AtEnd Ready ≡ Ready = sym (cond-true (eqb u t) (cond (leb (length sc) (at .step)) AtEnd Ready) (cond (waits e t u sc at) Halted Ready) (eq-eqb u t q)) ∙ ready in
+    leb-false (length sc) (at .step) (not-end (leb (length sc) (at .step)) w))
     (λ (q : u ≡ t → ⊥).
-      let w : cond (waits e t u sc at) Halted Ready ≡ Ready = sym (cond-false (eqb u t) (cond (leb (length sc) (at .step)) AtEnd Ready) (cond (waits e t u sc at) Halted Ready) (ne-eqb u t q)) ∙ ready in
-      let lead = some-is (shadow e t t) (o .led t (ap isSome script)) in
-      let low = leb-false (place-of (shadow e t t)) (at .step) (or-parts (leb (place-of (shadow e t t)) (at .step)) _ (not-halted (waits e t u sc at) w) .0) in
-      let z : place-of (shadow e t t) ≡ lead .0 .step = ap place-of (lead .1) in
-      let far = o .shadows t t sc (lead .0) script (lead .1) .0 in
-      omega arith)
+    let w : cond (waits e t u sc at) Halted Ready ≡ Ready = sym (cond-false (eqb u t) (cond (leb (length sc) (at .step)) AtEnd Ready) (cond (waits e t u sc at) Halted Ready) (ne-eqb u t q)) ∙ ready in
+    let lead = some-is (shadow e t t) (o .led t (ap isSome script)) in
+    let low = leb-false (place-of (shadow e t t)) (at .step) (or-parts (leb (place-of (shadow e t t)) (at .step)) _ (not-halted (waits e t u sc at) w) .0) in
+    let z : place-of (shadow e t t) ≡ lead .0 .step = ap place-of (lead .1) in
+    let far = o .shadows t t sc (lead .0) script (lead .1) .0 in
+    omega arith)
     (cases-eq u t)
   where
     not-end : (b : Bool) → cond b AtEnd Ready ≡ Ready → b ≡ false
     not-end true h = let z : _≡_ {A = ℕ} 0 1 = cc in absurd (omega arith)
     not-end false h = refl
+
     not-halted : (b : Bool) → cond b Halted Ready ≡ Ready → b ≡ false
     not-halted true h = let z : _≡_ {A = ℕ} 0 1 = cc in absurd (omega arith)
     not-halted false h = refl
