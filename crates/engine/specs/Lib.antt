@@ -2,3 +2,4 @@ pub mod View
 pub mod Alone
 pub mod Table
 pub mod Calls
+pub mod Booking

@@ -3,6 +3,7 @@ ghost use Rattle.serial.specs.Sound.{Eight, Allowance-fits, Closed-bare, Open-l
 ghost use Rattle.engine.specs.Table.{engine-of};
 use crate::table::Table;
 
+mod booking;
 mod calls;
 mod questions;
 

@@ -10,3 +10,4 @@ pub mod Booking
 pub mod Sound
 pub mod Words
 pub mod Outcomes
+pub mod Histories

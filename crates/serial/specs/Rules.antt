@@ -4,7 +4,7 @@
 -- place u its shadow for slot u, which guesses that u commits first.
 use mathlib.Core.Path.{_≡_}
 use mathlib.Core.Bool.{Bool, true, false, cond, not, _&&_, _||_}
-use mathlib.Core.List.{List, [], _∷_, map}
+use mathlib.Core.List.{List, [], _∷_, _++_, map}
 use Prim.Native.Nat.{ℕ, zero, suc, _+_}
 use lib.Dec.{eqb, ltb, leb}
 use lib.ListN.{length, getD, set, replicate}
@@ -341,3 +341,21 @@ after ar (c ∷ cs) s = after ar cs (does ar c s .0)
 abbrev pub answers : Meaning → List Call → State → List Answer
 answers ar [] s = []
 answers ar (c ∷ cs) s = does ar c s .1 ∷ answers ar cs (does ar c s .0)
+
+-- what an accepted commit puts: its slot's leading shadow's list; any other call puts nothing
+abbrev pub list-put : Engine → Call → Answer → List WriteEntry
+list-put e (commit t) (Committed r n) = lead-writes e t
+list-put e (commit t) (Declined f) = []
+list-put e (commit t) Allowed = []
+list-put e (commit t) Begun = []
+list-put e (commit t) (Took how) = []
+list-put e (commit t) Aborted = []
+list-put e (set-allowance k) a = []
+list-put e (begin t bytes) a = []
+list-put e (turn t u) a = []
+list-put e (abort t) a = []
+
+-- what a list of calls puts, in order
+abbrev pub lists-put : Meaning → List Call → State → List WriteEntry
+lists-put ar [] s = []
+lists-put ar (c ∷ cs) s = list-put (s .engine) c (does ar c s .1) ++ lists-put ar cs (does ar c s .0)
