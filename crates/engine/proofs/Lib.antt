@@ -9,3 +9,4 @@ pub mod Ends
 pub mod Kept
 pub mod Offs
 pub mod Called
+pub mod Booked

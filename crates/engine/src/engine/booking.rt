@@ -43,7 +43,10 @@ impl Engine {
         ensures puts { λ r. ⌜ Chain (S·Store .wrote) (now (store .entry)) (list-put (engine-of (now (self .entry) .table)) (call-of (now (call .entry))) r) (now (store .exit)) ⌝ }
     {
         match call {
-            Call::SetAllowance { allowance } => answer_unit(self.set_allowance(*allowance), Answer::Allowed),
+            Call::SetAllowance { allowance } => answer_unit(
+                self.set_allowance(*allowance),
+                Answer::Allowed,
+            ),
             Call::Begin { slot, script } => answer_unit(self.begin(*slot, script), Answer::Begun),
             Call::Turn { slot, other } => match self.turn(*slot, *other, store, arithmetic) {
                 Ok(turned) => Answer::Took(turned),
@@ -56,4 +59,22 @@ impl Engine {
             Call::Abort { slot } => answer_unit(self.abort(*slot), Answer::Aborted),
         }
     }
+}
+
+// Carries out a list of calls on a fresh engine, declined ones among them, and answers each: as many as there is room for
+// answers. Gives back the engine and how many were carried out. Whatever the calls, they book serially.
+pub fn carry_out<S: Store, A: Arithmetic>(
+    calls: &[Call],
+    answers: &mut [Answer],
+    store: &mut S,
+    arithmetic: &A,
+) -> (Engine, usize)
+    ensures { λ r. ⌜ Carried (S·Reader .pages) (S·Store .wrote) (A·Arithmetic .meaning (now (arithmetic .entry))) (now (calls .entry)) (now (answers .entry)) (now (store .entry)) (r .0) (r .1) (now (answers .exit)) (now (store .exit)) ⌝ }
+{
+    let mut engine = Engine::new();
+    let count = calls.len().min(answers.len());
+    for i in 0..count {
+        answers[i] = engine.call(&calls[i], store, arithmetic);
+    }
+    (engine, count)
 }
