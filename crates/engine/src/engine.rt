@@ -7,6 +7,9 @@ mod booking;
 mod calls;
 mod questions;
 
+pub use booking::Call;
+pub use booking::carry_out;
+
 // Every engine is sound: a closed slot has no shadow, an open one has its leading shadow, no slot has more shadows than the
 // allowance, and no shadow is for a closed slot.
 pub struct Engine {

@@ -10,3 +10,7 @@ pub use alone::AloneFaultDebug;
 pub use alone::AloneFaultPartialEq;
 pub use alone::AloneFromScript;
 pub use alone::run_alone;
+pub use engine::Call;
+pub use engine::Engine;
+pub use engine::carry_out;
+pub use shadow::Shadow;

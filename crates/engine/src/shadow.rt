@@ -1,5 +1,6 @@
 // A shadow: how far a script has come on its own, over pages that it does not change.
 ghost use mathlib.Core.Path.{_≡_};
+ghost use Rattle.std.specs.Finite.{nth};
 ghost use Rattle.serial.specs.Machine.{start as started, index, holds, written as word-written, has-read, has-written, has-read-any, indexed, page-read, page-written, store-read, write-of};
 ghost use Rattle.engine.specs.View.{stand-of, Placed};
 use basics::Trail;
@@ -63,25 +64,32 @@ impl Shadow {
     }
 
     // The step that is next.
-    pub(crate) fn step(&self) -> usize
+    pub fn step(&self) -> usize
         ensures { λ r. ⌜ r ≡ stand-of (now (self .entry)) .step ⌝ }
     {
         self.step
     }
 
-    pub(crate) fn reads(&self) -> &[ReadEntry]
+    pub fn reads(&self) -> &[ReadEntry]
         ensures { λ r. ⌜ now r ≡ stand-of (now (self .entry)) .reads ⌝ }
     {
         self.reads.as_slice()
     }
 
-    pub(crate) fn own(&self) -> &[WriteEntry]
+    // The recorded read with this index, counted from 0.
+    pub(crate) fn read(&self, index: usize) -> Option<ReadEntry>
+        ensures { λ r. ⌜ r ≡ nth (stand-of (now (self .entry)) .reads) index ⌝ }
+    {
+        self.reads.get(index)
+    }
+
+    pub fn own(&self) -> &[WriteEntry]
         ensures { λ r. ⌜ now r ≡ stand-of (now (self .entry)) .own ⌝ }
     {
         self.own.as_slice()
     }
 
-    pub(crate) fn register(&self, register: Register) -> u32
+    pub fn register(&self, register: Register) -> u32
         ensures { λ r. ⌜ r ≡ holds (stand-of (now (self .entry))) register ⌝ }
     {
         self.registers[index_of(register)]
