@@ -13,7 +13,7 @@ use Rattle.std.specs.declared.option.Option.{Option}
 use Rattle.std.specs.declared.option.Option.the-variants.{Some, None}
 use Rattle.std.specs.declared.result.Result.{Result}
 use Rattle.std.specs.declared.result.Result.the-variants.{Ok, Err}
-use Rattle.std.proofs.shelf.Tests.{cases-bool, cases-eq, cases-lt, cond-true, cond-false, cond-both, and-parts, and-from, and-cases, leb-true, le-leb, ltb-true, ltb-false, eqb-true, eqb-false, eq-eqb, not-true, not-false, not-from-true, not-from-false, true≢false, both-ways}
+use Rattle.std.proofs.shelf.Tests.{cases-bool, cases-eq, cases-lt, cond-true, cond-false, cond-both, and-parts, and-from, and-cases, or-cases, or-left, or-right, leb-true, le-leb, ltb-true, lt-ltb, le-ltb, or-from, ltb-false, eqb-true, eqb-false, eq-eqb, not-true, not-false, not-from-true, not-from-false, true≢false, both-ways}
 use Rattle.pages.specs.declared.WriteEntry.{WriteEntry}
 use Rattle.script.specs.Script.{decoded}
 use Rattle.script.specs.declared.ScriptFault.{ScriptFault}
@@ -28,7 +28,7 @@ use Rattle.serial.specs.Machine.{Meaning, Steps, Stand, start, Taken, moved, o
 use Rattle.serial.specs.Alone.{next, put-all}
 use Rattle.serial.specs.Rules.{Row, Engine, State, Done, slots, script-of, is-open, row, shadow, with-shadow, reads-of, own-of, lead-writes, ahead, better, furthest, furthest-of, any-shadow, clean, count, has-room, account, read-conflict, account-read, account-reads, write-conflict, account-write, account-writes, before-step, after-step, lead-moves, shadow-moves, standing, in-range, first-open, allow-closed, begin-with, turn-step, turn-standing, turn-shadow, turn-open, kept, remaining, committed, first-off, commit-puts, commit-open, abort-open, Call, set-allowance, begin, turn, commit, abort, does}
 use Rattle.serial.specs.Sound.{Sound-engine}
-use Rattle.serial.specs.Words.{Not-before, Furthest, Picks-furthest, unread, Commits-so, Accounted-for, Turns-so, Commits-in-words, Turns-in-words, Declined-changes-nothing}
+use Rattle.serial.specs.Words.{Not-before, Furthest, Picks-furthest, unread, Commits-so, Accounts-in-words, Accounted-for, Turns-so, Commits-in-words, Turns-in-words, Declined-changes-nothing}
 use Rattle.serial.proofs.Table.{none-is-some, some-is, none-is, some-or-none, there-within, Sized, shadow-within, shadow-put, shadow-put-place, shadow-put-row, count-set, remaining-at, kept-was, kept-unread}
 use Rattle.serial.proofs.Turns.{open-within, moves-scripts}
 use Rattle.serial.proofs.Commits.{none-of, none-for, others-kept, lead-stays, lead-renewed, script-there, script-other}
@@ -236,7 +236,7 @@ account-allowance e t u = cond-both (has-room e t u) _ e (λ z. z .allowance ≡
 
 -- what accounting before a read changes
 reads-besides : (us : List ℕ) (e : Engine) (t p : ℕ) → Holds e → is-open e t ≡ true → (v w : ℕ)
-    → ((v ≡ t) → (w ≢ t) → shadow e t w ≡ None → has-written (lead-writes e w) p ≡ true → ⊥) → shadow (account-reads e t p us) v w ≡ shadow e v w
+    → ((v ≡ t) → (w ≢ t) → is-open e w ≡ true → shadow e t w ≡ None → has-written (lead-writes e w) p ≡ true → ⊥) → shadow (account-reads e t p us) v w ≡ shadow e v w
 reads-besides [] e t p o t-open v w d = refl
 reads-besides (u ∷ us) e t p o t-open v w d =
     let one = reads-stay (u ∷ []) e t p o t-open in
@@ -248,14 +248,18 @@ reads-besides (u ∷ us) e t p o t-open v w d =
     let c = and-parts (not (isSome (shadow e t u))) (has-written (lead-writes e u) p) (b .1) in
     account-other e o t u t-open (b .0) v w (λ q r.
     let ne : w ≢ t = λ z. eqb-false u t (not-true (eqb u t) (a .0)) (sym r ∙ z) in
-    d q ne (ap (shadow e t) r ∙ none-is (shadow e t u) (not-true (isSome (shadow e t u)) (c .0))) (ap (λ m. has-written (lead-writes e m) p) r ∙ c .1)))
+    d q ne (ap (is-open e) r ∙ b .0) (ap (shadow e t) r ∙ none-is (shadow e t u) (not-true (isSome (shadow e t u)) (c .0))) (ap (λ m. has-written (lead-writes e m) p) r ∙ c .1)))
     (λ h. refl) in
     reads-besides us e₁ t p (one .ok) (open-same e e₁ t (one .scripts) t-open) v w
-    (λ q ne gone wrote. d q ne (subst (λ m. shadow e m w ≡ None) q (sym same ∙ subst (λ m. shadow e₁ m w ≡ None) (sym q) gone)) (ap (λ z. has-written (own-of z) p) (sym (one .leads w)) ∙ wrote))
+    (λ q ne w-open gone wrote. d q ne (open-same e₁ e w (sym (one .scripts)) w-open) (subst (λ m. shadow e m w ≡ None) q (sym same ∙ subst (λ m. shadow e₁ m w ≡ None) (sym q) gone)) (ap (λ z. has-written (own-of z) p) (sym (one .leads w)) ∙ wrote))
     ∙ same
 
+-- a slot's shadow for t is not there, or has read the page
+abbrev Due : Engine → ℕ → ℕ → ℕ → Type 0
+Due e t p v = (shadow e v t ≡ None) ⊎ (has-read (reads-of (shadow e v t)) p ≡ true)
+
 writes-besides : (vs : List ℕ) (e : Engine) (t p : ℕ) → Holds e → is-open e t ≡ true → (v w : ℕ)
-    → ((w ≡ t) → (v ≢ t) → has-read (reads-of (shadow e v v)) p ≡ true → ⊥) → shadow (account-writes e t p vs) v w ≡ shadow e v w
+    → ((w ≡ t) → (v ≢ t) → is-open e v ≡ true → has-read (reads-of (shadow e v v)) p ≡ true → Due e t p v → ⊥) → shadow (account-writes e t p vs) v w ≡ shadow e v w
 writes-besides [] e t p o t-open v w d = refl
 writes-besides (x ∷ vs) e t p o t-open v w d =
     let one = writes-stay (x ∷ []) e t p o t-open in
@@ -264,23 +268,27 @@ writes-besides (x ∷ vs) e t p o t-open v w d =
     (λ h.
     let a = and-parts (not (eqb x t)) _ h in
     let b = and-parts (is-open e x) _ (a .1) in
-    let c = and-parts (has-read (reads-of (shadow e x x)) p) _ (b .1) in
+    let c = and-parts (has-read (reads-of (shadow e x x)) p) (not (isSome (shadow e x t)) || has-read (reads-of (shadow e x t)) p) (b .1) in
+    let due : Due e t p x = ⊎-elim (λ (z : not (isSome (shadow e x t)) ≡ true). inl (none-is (shadow e x t) (not-true (isSome (shadow e x t)) z))) (λ (z : has-read (reads-of (shadow e x t)) p ≡ true). inr z) (or-cases (not (isSome (shadow e x t))) (has-read (reads-of (shadow e x t)) p) (c .1)) in
     account-other e o x t (b .0) t-open v w (λ q r.
-    d r (λ z. eqb-false x t (not-true (eqb x t) (a .0)) (sym q ∙ z)) (ap (λ m. has-read (reads-of (shadow e m m)) p) q ∙ c .0)))
+    d r (λ z. eqb-false x t (not-true (eqb x t) (a .0)) (sym q ∙ z)) (ap (is-open e) q ∙ b .0) (ap (λ m. has-read (reads-of (shadow e m m)) p) q ∙ c .0) (subst (Due e t p) (sym q) due)))
     (λ h. refl) in
     writes-besides vs e₁ t p (one .ok) (open-same e e₁ t (one .scripts) t-open) v w
-    (λ q ne read. d q ne (ap (λ z. has-read (reads-of z) p) (sym (one .leads v)) ∙ read))
+    (λ q ne v-open read due.
+    let same-t : shadow e₁ v t ≡ shadow e v t = subst (λ m. shadow e₁ v m ≡ shadow e v m) q same in
+    d q ne (open-same e₁ e v (sym (one .scripts)) v-open) (ap (λ z. has-read (reads-of z) p) (sym (one .leads v)) ∙ read)
+    (⊎-elim (λ (z : shadow e₁ v t ≡ None). inl (sym same-t ∙ z)) (λ (z : has-read (reads-of (shadow e₁ v t)) p ≡ true). inr (ap (λ y. has-read (reads-of y) p) (sym same-t) ∙ z)) due))
     ∙ same
 
 before-besides : (e : Engine) (t : ℕ) (sr : Option ℕ) → Holds e → is-open e t ≡ true → (v w : ℕ)
-    → ((v ≡ t) → (w ≢ t) → shadow e t w ≡ None → ((p : ℕ) × (sr ≡ Some p) × (has-written (lead-writes e w) p ≡ true)) → ⊥) → shadow (before-step e t sr) v w ≡ shadow e v w
+    → ((v ≡ t) → (w ≢ t) → is-open e w ≡ true → shadow e t w ≡ None → ((p : ℕ) × (sr ≡ Some p) × (has-written (lead-writes e w) p ≡ true)) → ⊥) → shadow (before-step e t sr) v w ≡ shadow e v w
 before-besides e t None o t-open v w d = refl
-before-besides e t (Some p) o t-open v w d = reads-besides slots e t p o t-open v w (λ q ne gone wrote. d q ne gone (p, refl, wrote))
+before-besides e t (Some p) o t-open v w d = reads-besides slots e t p o t-open v w (λ q ne w-open gone wrote. d q ne w-open gone (p, refl, wrote))
 
 after-besides : (e : Engine) (t : ℕ) (wr : Option ℕ) → Holds e → is-open e t ≡ true → (v w : ℕ)
-    → ((w ≡ t) → (v ≢ t) → ((p : ℕ) × (wr ≡ Some p) × (has-read (reads-of (shadow e v v)) p ≡ true)) → ⊥) → shadow (after-step e t wr) v w ≡ shadow e v w
+    → ((w ≡ t) → (v ≢ t) → is-open e v ≡ true → ((p : ℕ) × (wr ≡ Some p) × (has-read (reads-of (shadow e v v)) p ≡ true) × Due e t p v) → ⊥) → shadow (after-step e t wr) v w ≡ shadow e v w
 after-besides e t None o t-open v w d = refl
-after-besides e t (Some p) o t-open v w d = writes-besides slots e t p o t-open v w (λ q ne read. d q ne (p, refl, read))
+after-besides e t (Some p) o t-open v w d = writes-besides slots e t p o t-open v w (λ q ne v-open read due. d q ne v-open (p, refl, read, due))
 
 -- the allowance stays
 reads-allowance : (us : List ℕ) (e : Engine) (t p : ℕ) → account-reads e t p us .allowance ≡ e .allowance
@@ -324,16 +332,28 @@ lead-so ar st o t sc s to script lead step =
     record {
       to = to;
       step = step;
-      named = after-besides e₂ t wr ok₂ (ap isSome script₁) t t (λ q ne _. ne refl) ∙ now-there;
+      named = after-besides e₂ t wr ok₂ (ap isSome script₁) t t (λ q ne _ _. ne refl) ∙ now-there;
       besides = λ v w d free.
-          let mid : shadow e₂ v w ≡ shadow e₁ v w = ⊎-elim
-          (λ (q : v ≡ t). subst (λ m. shadow e₂ m w ≡ shadow e₁ m w) (sym q) (shadow-put-place e₁ (b .ok .sized) t t t-in t-in (Some to) w (d q)))
-          (λ (q : v ≡ t → ⊥). shadow-put-row e₁ (b .ok .sized) t t t-in t-in (Some to) v w q)
-          (cases-eq v t) in
+          let mid : (x y : ℕ) → (x ≡ t → y ≡ t → ⊥) → shadow e₂ x y ≡ shadow e₁ x y = λ x y c. ⊎-elim
+          (λ (q : x ≡ t). subst (λ m. shadow e₂ m y ≡ shadow e₁ m y) (sym q) (shadow-put-place e₁ (b .ok .sized) t t t-in t-in (Some to) y (c q)))
+          (λ (q : x ≡ t → ⊥). shadow-put-row e₁ (b .ok .sized) t t t-in t-in (Some to) x y q)
+          (cases-eq x t) in
+          -- rows other than t's are as they were before the move
+          let rest : (x y : ℕ) → x ≢ t → shadow e₂ x y ≡ shadow e x y = λ x y c. mid x y (λ q _. c q) ∙ before-besides e t sr o t-open x y (λ q _ _ _ _. c q) in
           after-besides e₂ t wr ok₂ (ap isSome script₁) v w
-          (λ q ne x. free refl (inr (q, ne, (x .0, x .1, ap (λ z. has-read (reads-of z) (x .0)) (sym (b .leads v) ∙ sym (shadow-put-row e₁ (b .ok .sized) t t t-in t-in (Some to) v v ne)) ∙ x .2))))
-          ∙ mid
-          ∙ before-besides e t sr o t-open v w (λ q ne gone x. free refl (inl (q, ne, gone, x)));
+          (λ q ne v-open x. free refl (inr (
+            q,
+            ne,
+            open-same e₁ e v (sym (b .scripts)) v-open,
+            (
+              x .0,
+              x .1,
+              ap (λ z. has-read (reads-of z) (x .0)) (sym (rest v v ne)) ∙ x .2,
+              ⊎-elim (λ (z : shadow e₂ v t ≡ None). inl (sym (rest v t ne) ∙ z)) (λ (z : has-read (reads-of (shadow e₂ v t)) (x .0) ≡ true). inr (ap (λ y. has-read (reads-of y) (x .0)) (sym (rest v t ne)) ∙ z)) (x .3),
+            ),
+          )))
+          ∙ mid v w d
+          ∙ before-besides e t sr o t-open v w (λ q ne w-open gone x. free refl (inl (q, ne, w-open, gone, x)));
       scripts = moves-scripts-lead e t sc s to;
       allowance = moves-allowance-lead e t sc s to;
     }
@@ -449,3 +469,28 @@ module _ (ar : Meaning) (s : State) (f : CallFault) where
 
 pub declined-changes-nothing : Declined-changes-nothing
 declined-changes-nothing ar c s f h = unchanged ar s f c h
+
+-- accounting, in words
+pub accounts-in-words : Accounts-in-words
+accounts-in-words e t u sound t-open u-open =
+    let o = ok-from e sound in
+    let t-in = open-within e (o .sized) t t-open in
+    let u-in = open-within e (o .sized) u u-open in
+    let forked = Some (valueOr (furthest-of (clean e u) t (row e t)) start) in
+    record {
+      room = λ h.
+          let fits : has-room e t u ≡ true = ⊎-elim
+          (λ (a : isSome (shadow e t u) ≡ true). or-left (isSome (shadow e t u)) (ltb (count (row e t)) (e .allowance)) a)
+          (λ (a : count (row e t) < e .allowance). or-right (isSome (shadow e t u)) (ltb (count (row e t)) (e .allowance)) (lt-ltb (count (row e t)) (e .allowance) a))
+          h in
+          let now-there : shadow (account e t u) t u ≡ forked = ap (λ z. shadow z t u) (cond-true (has-room e t u) (with-shadow e t u forked) e fits) ∙ shadow-put e (o .sized) t u t-in u-in forked in
+          from-furthest (furthest-of (clean e u) t (row e t)) (picks-furthest (clean e u) t (row e t)) now-there;
+      no-room = λ none full. cond-false (has-room e t u) (with-shadow e t u forked) e (or-from (isSome (shadow e t u)) (ltb (count (row e t)) (e .allowance)) (ap isSome none) (le-ltb (count (row e t)) (e .allowance) full));
+      besides = account-other e o t u t-open u-open;
+      scripts = cond-both (has-room e t u) (with-shadow e t u forked) e (λ z. z .scripts ≡ e .scripts) (λ h. refl) (λ h. refl);
+      allowance = account-allowance e t u;
+    }
+  where
+    from-furthest : (x : Option Stand) → Furthest (clean e u) t (row e t) x → shadow (account e t u) t u ≡ Some (valueOr x start) → (s : Stand) × (shadow (account e t u) t u ≡ Some s) × (Furthest (clean e u) t (row e t) (Some s) ⊎ ((s ≡ start) × Furthest (clean e u) t (row e t) None))
+    from-furthest None f h = (start, h, inr (refl, f))
+    from-furthest (Some s) f h = (s, h, inl f)

@@ -228,7 +228,8 @@ begin-with s t (Ok script) = (with-engine s (begun (s .engine) t script), Begun)
 abbrev pub begins : State → ℕ → List ℕ → Done
 begins s t bytes = in-range s t (cond (is-open (s .engine) t) (decline s (AlreadyOpen t)) (begin-with s t (decoded bytes)))
 
--- turn: a leading shadow at its end has ended, a waiting shadow waits; else one step is taken
+-- turn: a leading shadow at its end has ended, a waiting shadow waits; else one step is taken. In every engine a shadow that
+-- is able to try a step is before its script's end, so that there is always one to take
 abbrev pub turn-step : State → ℕ → ℕ → Steps → Stand → Option Taken → Done
 turn-step s t u script at None = (s, Took Ended)
 turn-step s t u script at (Some (off-pages p)) = decline s (OffPages (step-fault t (at .step) (fault-at p)))
@@ -302,6 +303,7 @@ abbrev pub commit-lead : State → ℕ → Steps → Stand → Done
 commit-lead s t script lead =
     cond (leb (length script) (lead .step)) (commit-puts s t lead (first-off (length (s .pages)) (lead .own))) (decline s (NotEnded (lead .step)))
 
+-- (every open slot has its leading shadow, so that the start is never fallen back on here)
 abbrev pub commit-open : State → ℕ → Option Steps → Done
 commit-open s t None = decline s (NotOpen t)
 commit-open s t (Some script) = commit-lead s t script (valueOr (shadow (s .engine) t t) start)

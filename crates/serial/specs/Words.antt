@@ -15,7 +15,7 @@ use Rattle.serial.specs.declared.fault.Answer.the-variants.{Took, Committed, D
 use Rattle.serial.specs.declared.fault.CallFault.{CallFault}
 use Rattle.serial.specs.Machine.{Meaning, Steps, Stand, start, moved, store-read, write-of, has-read, has-written, has-read-any}
 use Rattle.serial.specs.Alone.{next, put-all}
-use Rattle.serial.specs.Rules.{Row, Engine, State, Call, turn, commit, does, script-of, is-open, row, shadow, reads-of, lead-writes, furthest-of, committed}
+use Rattle.serial.specs.Rules.{Row, Engine, State, Call, turn, commit, does, script-of, is-open, row, shadow, reads-of, lead-writes, clean, furthest-of, count, account, committed}
 use Rattle.serial.specs.Sound.{Sound-engine}
 
 -- of slot t's shadows, y in place w does not count before s in place u: it is behind; or level, and s leads, or neither
@@ -52,13 +52,30 @@ pub record Commits-so (e : Engine) (t : ℕ) (replaced : List WriteEntry) (e′ 
       → (s : Stand) × (shadow e′ v v ≡ Some s)
       × (Furthest (unread replaced) v (row e v) (Some s) ⊎ ((s ≡ start) × Furthest (unread replaced) v (row e v) None))
 
+-- t accounts for u: where t has a shadow for u, or fewer than the allowance, its shadow for u becomes a copy of the furthest
+-- that is clean for u, else a start; with no room for it nothing is done; no other place changes
+pub record Accounts-so (e : Engine) (t u : ℕ) (e′ : Engine) : Type 0 where
+  pub room : (isSome (shadow e t u) ≡ true) ⊎ (count (row e t) < e .allowance)
+      → (s : Stand) × (shadow e′ t u ≡ Some s)
+      × (Furthest (clean e u) t (row e t) (Some s) ⊎ ((s ≡ start) × Furthest (clean e u) t (row e t) None))
+  pub no-room : shadow e t u ≡ None → e .allowance ≤ count (row e t) → e′ ≡ e
+  pub besides : (v w : ℕ) → (v ≡ t → w ≡ u → ⊥) → shadow e′ v w ≡ shadow e v w
+  pub scripts : e′ .scripts ≡ e .scripts
+  pub allowance : e′ .allowance ≡ e .allowance
+
+abbrev pub Accounts-in-words : Type 0
+Accounts-in-words = (e : Engine) (t u : ℕ) → Sound-engine e → is-open e t ≡ true → is-open e u ≡ true → Accounts-so e t u (account e t u)
+
 -- a pair that a move of t's leading shadow from s accounts for: before a store read of a page, t for another open slot w
--- that it has no shadow for and whose leading shadow has written the page; after a write of a page, another slot v for t
--- whose leading shadow has read the page
+-- that it has no shadow for and whose leading shadow has written the page; after a write of a page, another open slot v for
+-- t whose leading shadow has read the page, and that has no shadow for t or one that has read the page
 abbrev pub Accounted-for : Engine → ℕ → Steps → Stand → ℕ → ℕ → Type 0
 Accounted-for e t script s v w =
-    ((v ≡ t) × (w ≢ t) × (shadow e t w ≡ None) × ((p : ℕ) × (store-read (nth script (s .step)) s ≡ Some p) × (has-written (lead-writes e w) p ≡ true)))
-    ⊎ ((w ≡ t) × (v ≢ t) × ((p : ℕ) × (write-of (nth script (s .step)) s ≡ Some p) × (has-read (reads-of (shadow e v v)) p ≡ true)))
+    ((v ≡ t) × (w ≢ t) × (is-open e w ≡ true) × (shadow e t w ≡ None)
+    × ((p : ℕ) × (store-read (nth script (s .step)) s ≡ Some p) × (has-written (lead-writes e w) p ≡ true)))
+    ⊎ ((w ≡ t) × (v ≢ t) × (is-open e v ≡ true)
+    × ((p : ℕ) × (write-of (nth script (s .step)) s ≡ Some p) × (has-read (reads-of (shadow e v v)) p ≡ true)
+    × ((shadow e v t ≡ None) ⊎ (has-read (reads-of (shadow e v t)) p ≡ true))))
 
 -- a turn of t's shadow for u, with u = t for the leading one, that moved it from s: the named shadow stands where its
 -- step leads, and besides it only shadows accounted for change, which only moves of a leading shadow set off

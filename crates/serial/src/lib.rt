@@ -3,7 +3,7 @@
 ghost use Rattle.serial.specs.Book.{Every-list-booked};
 ghost use Rattle.serial.specs.Laws.{Steps-rise, Runs-determined, Reads-grow, Unread-reached, Stand-found};
 ghost use Rattle.serial.specs.Sound.{Engines-stay-sound};
-ghost use Rattle.serial.specs.Words.{Picks-furthest, Commits-in-words, Turns-in-words, Declined-changes-nothing};
+ghost use Rattle.serial.specs.Words.{Picks-furthest, Commits-in-words, Accounts-in-words, Turns-in-words, Declined-changes-nothing};
 
 mod fault;
 
@@ -53,6 +53,7 @@ pub fn every_list_is_booked()
 pub fn rules_in_words()
     ensures furthest { λ _. ⌜ Picks-furthest ⌝ }
     ensures commits { λ _. ⌜ Commits-in-words ⌝ }
+    ensures accounts { λ _. ⌜ Accounts-in-words ⌝ }
     ensures turns { λ _. ⌜ Turns-in-words ⌝ }
     ensures declined { λ _. ⌜ Declined-changes-nothing ⌝ }
     ensures sound { λ _. ⌜ Engines-stay-sound ⌝ }
