@@ -12,6 +12,7 @@ pub use booking::carry_out;
 
 // Every engine is sound: a closed slot has no shadow, an open one has its leading shadow, no slot has more shadows than the
 // allowance, and no shadow is for a closed slot.
+#[derive(Drop)]
 pub struct Engine {
     table: Table,
     ghost eight: { Eight (engine-of table) },
