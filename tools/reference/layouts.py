@@ -1,9 +1,10 @@
 #!/usr/bin/env python3
 """Writes a scenario of sound and damaged layouts: images, logs and flat stores, with puts and loads over them, and
-scripts, run alone over them.
+scripts, run alone over them and side by side.
 
 Usage: layouts.py > crates/gorsepick/stdin
 """
+from random import Random
 
 TOP = 2**32 - 1
 
@@ -413,8 +414,206 @@ def named_again():
     command("pages")
 
 
+# Scripts for runs of the engine.
+SIXTEEN = script(*[(SET, 0, 0, index) for index in range(16)])
+SEVENTEEN = script(*[(SET, 0, 0, index) for index in range(17)])
+
+
+def turns(slot, count, other=None):
+    for _ in range(count):
+        command("turn", slot, slot if other is None else other)
+
+
+def begin_pair():
+    command("flat", 10, 20, 30)
+    command("begin", 0, "A")
+    command("begin", 1, "B")
+
+
+def end_pair():
+    """Closes what is still open, and shows the pages."""
+    for slot in (0, 1):
+        command("abort", slot)
+    command("pages")
+    command("book")
+
+
+def known_runs():
+    note("A and B side by side: a shadow takes over, B commits first, a shadow starts at step 0, B starts over")
+    command("script", "A", A)
+    command("script", "B", B)
+    for allowance in (2, 1):
+        command("allow", allowance)
+        begin_pair()
+        turns(0, 4)
+        turns(1, 3)
+        command("stand", 1, 0)
+        command("entry", 1, 0, 0)
+        command("shadows")
+        command("commit", 0)
+        command("stand", 1, 1)
+        turns(1, 5)
+        command("commit", 1)
+        end_pair()
+    command("allow", 2)
+    begin_pair()
+    turns(0, 4)
+    turns(1, 4)
+    command("commit", 1)
+    command("commit", 0)
+    end_pair()
+    begin_pair()
+    turns(1, 2)
+    turns(0, 4)
+    command("stand", 1, 0)
+    turns(1, 3, 0)
+    for index in (0, 1, 2, TOP):
+        command("entry", 1, 1, index)
+        command("entry", 1, 0, index)
+    end_pair()
+    note("sixteen sets, a skip, pages 2 and 3, a page past the top")
+    for name, digits in (
+        ("sixteen", SIXTEEN),
+        ("seventeen", SEVENTEEN),
+        ("skip", script((SKIP, 0, 1, 1), (SET, 0, 0, 9))),
+        ("lone", script((SKIP, 0, 1, 1))),
+        ("third", script((READ, 0, 0, 2))),
+        ("fourth", script((READ, 0, 0, 3))),
+        ("round", script((SET, 1, 0, 1), (READ_INDEXED, 0, 1, TOP))),
+    ):
+        command("script", name, digits)
+        command("begin", 7, name)
+        turns(7, 3)
+        command("commit", 7)
+        command("abort", 7)
+    command("pages")
+
+
+def engine_refusals():
+    note("every refusal, and which comes first")
+    command("flat", 10, 20, 30)
+    command("script", "none")
+    command("script", "cut", A[:-2])
+    command("script", "odd", script((SET, 0, 0, 1), (7, 0, 0, 0)))
+    command("script", "off", script((SET, 0, 0, 4), (WRITE, 0, 0, 3)))
+    command("script", "last", script((SET, 0, 0, 4), (WRITE, 0, 0, 0), (WRITE, 0, 0, 2), (WRITE, 0, 0, 1)))
+    for slot in (8, TOP):
+        command("begin", slot, "A")
+        command("begin", slot, "none")
+        command("commit", slot)
+        command("abort", slot)
+        for name in ("turn", "stand"):
+            command(name, slot, 0)
+            command(name, 0, slot)
+            command(name, slot, TOP)
+        command("entry", slot, 9, 0)
+        command("entry", 0, slot, 0)
+    for allowance in (0, 9, TOP, 8, 2):
+        command("allow", allowance)
+    for name in ("none", "cut", "odd"):
+        command("begin", 3, name)
+    for slot in (0, 7):
+        command("commit", slot)
+        command("abort", slot)
+        command("turn", slot, slot)
+        command("stand", slot, 3)
+        command("entry", slot, slot, 0)
+    command("begin", 5, "off")
+    command("begin", 3, "last")
+    command("begin", 5, "A")
+    command("begin", 5, "none")
+    for allowance in (3, 0):
+        command("allow", allowance)
+    for other in (3, 4):
+        command("turn", 5, other)
+        command("stand", 5, other)
+        command("entry", 5, other, 0)
+    command("commit", 5)
+    turns(5, 3)
+    command("commit", 5)
+    turns(3, 5)
+    note("the host takes a smaller store while slots are open")
+    for words in ((10, 20), (10,), ()):
+        command("flat", *words)
+        command("commit", 3)
+        command("turn", 3, 3)
+    command("log", *log(2, 1, 0))
+    command("commit", 3)
+    command("flat", 1, 2, 3, 4)
+    command("commit", 3)
+    command("pages")
+    turns(5, 2)
+    command("arithmetic", "flags")
+    command("commit", 5)
+    command("put", 0, 77)
+    command("arithmetic", "counters")
+    command("book")
+
+
+def random_script(random, pages):
+    steps = []
+    count = random.randint(1, 7)
+    for index in range(count):
+        action = random.choice((READ, READ, READ_INDEXED, WRITE, WRITE, WRITE_INDEXED, SET, COMBINE, SKIP))
+        a, b = random.randrange(4), random.randrange(4)
+        operand = random.randrange(pages)
+        if action in (READ, WRITE, SET):
+            b = 0
+        if action == COMBINE:
+            operand = random.randrange(3)
+        if action == SKIP:
+            operand = random.randint(1, 3)
+            if index + 1 + operand > count:
+                action, b, operand = SET, 0, random.randrange(pages)
+        steps.append((action, a, b, operand))
+    return script(*steps)
+
+
+def random_runs():
+    note("small scripts at random over few pages, with turns at random: many conflicts")
+    random = Random(20)
+    for allowance in (1, 2, 3, 8):
+        for store in (["flat", 0, 1, 2], ["log"] + log(3, 2, 1, base=[1, 0, 2], pages=[1], words=[1])):
+            command("allow", allowance)
+            command(*store)
+            command("arithmetic", random.choice(("counters", "flags")))
+            slots = random.choice((3, 5, 8))
+            for name in range(slots):
+                command("script", f"random{name}", random_script(random, 3))
+                command("begin", name, f"random{name}")
+            for _ in range(90):
+                random_command(random, slots)
+            command("shadows")
+            for slot in range(slots):
+                turns(slot, 3)
+                command("commit", slot)
+                command("abort", slot)
+            command("pages")
+            command("book")
+    command("arithmetic", "counters")
+
+
+def random_command(random, slots):
+    slot, other = random.randrange(slots), random.randrange(slots)
+    kind = random.randrange(20)
+    if kind < 10:
+        turns(slot, 1)
+    elif kind < 13:
+        turns(slot, 1, other)
+    elif kind < 15:
+        command("commit", slot)
+    elif kind < 17:
+        command("begin", slot, f"random{other}")
+    elif kind < 18:
+        command("stand", slot, other)
+    elif kind < 19:
+        command("entry", slot, other, random.randrange(3))
+    else:
+        command(random.choice(("abort 0", "shadows", "book", "pages")))
+
+
 def layouts():
-    """Every group in its turn; the last leaves a store of moderate size for the summary."""
+    """Every group in its turn; the last leaves a store of moderate size for the summary, and no slot open."""
     cut_images()
     sized_images()
     long_images()
@@ -435,6 +634,9 @@ def layouts():
     damaged_scripts()
     named_again()
     puts()
+    engine_refusals()
+    random_runs()
+    known_runs()
 
 
 if __name__ == "__main__":

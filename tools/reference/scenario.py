@@ -3,7 +3,8 @@
 
 Usage: scenario.py [FILE]    without FILE it reads standard input
 
-It follows the rules of stores, images, loading and scripts as the subject has them, and shares no code with the program.
+It follows the rules of stores, images, loading, scripts, shadows and the serial book as the subject has them, and shares
+no code with the program.
 """
 import sys
 
@@ -171,6 +172,205 @@ def run_alone(steps, store, operations):
     return registers[0], len(written)
 
 
+class Shadow:
+    """How far a script has come: step, registers, recorded reads (step and page) and own list (page to word)."""
+
+    def __init__(self):
+        self.step = 0
+        self.registers = [0, 0, 0, 0]
+        self.reads = []
+        self.own = {}
+
+    def copy(self):
+        other = Shadow()
+        other.step = self.step
+        other.registers = list(self.registers)
+        other.reads = list(self.reads)
+        other.own = dict(self.own)
+        return other
+
+    def has_read(self, pages):
+        return any(page in pages for _, page in self.reads)
+
+    def page_of(self, step):
+        action, _, b, operand = step
+        return (operand + self.registers[b]) % WORDS if action in (1, 3) else operand
+
+    def store_read(self, steps):
+        """The page of the store read that the next step is, or None."""
+        if self.step == len(steps) or steps[self.step][0] not in (0, 1):
+            return None
+        page = self.page_of(steps[self.step])
+        return None if page in self.own else page
+
+    def written_next(self, steps):
+        if steps[self.step][0] not in (2, 3):
+            return None
+        return self.page_of(steps[self.step])
+
+    def take_step(self, slot, steps, pages, operations):
+        """Takes the next step; one for a page that is not there changes nothing."""
+        action, a, b, operand = steps[self.step]
+        page = self.page_of(steps[self.step])
+        left_out = 0
+        if action in (0, 1):
+            if page in self.own:
+                self.registers[a] = self.own[page]
+            else:
+                if page >= len(pages):
+                    raise Refused(9, slot, self.step, page)
+                self.reads.append((self.step, page))
+                self.registers[a] = pages[page]
+        elif action in (2, 3):
+            if page >= len(pages):
+                raise Refused(9, slot, self.step, page)
+            self.own[page] = self.registers[a]
+        elif action == 4:
+            self.registers[a] = operand
+        elif action == 5:
+            self.registers[a] = operations[operand](self.registers[a], self.registers[b])
+        elif self.registers[a] == self.registers[b]:
+            left_out = operand
+        self.step += 1 + left_out
+
+
+class Slot:
+    """An open slot t: its steps, and its shadows by the slot that they are for; the leading one is under t itself."""
+
+    def __init__(self, number, steps):
+        self.number = number
+        self.steps = steps
+        self.shadows = {number: Shadow()}
+
+    def lead(self):
+        return self.shadows[self.number]
+
+    def furthest(self, kept):
+        """A copy of the furthest of the shadows kept, or a start."""
+        order = [self.number] + sorted(u for u in self.shadows if u != self.number)
+        found = None
+        for u in order:
+            shadow = self.shadows.get(u)
+            if shadow is not None and kept(shadow) and (found is None or shadow.step > found.step):
+                found = shadow
+        return Shadow() if found is None else found.copy()
+
+
+class Engine:
+    def __init__(self):
+        self.allowance = 2
+        self.slots = {}
+
+    def others(self, t):
+        return [self.slots[u] for u in sorted(self.slots) if u != t]
+
+    def opened(self, *numbers):
+        for number in numbers:
+            if number > 7:
+                raise Refused(1, number)
+        if numbers[0] not in self.slots:
+            raise Refused(7, numbers[0])
+        return self.slots[numbers[0]]
+
+    def chosen(self, t, u):
+        slot = self.opened(t, u)
+        if u not in slot.shadows:
+            raise Refused(8, u)
+        return slot, slot.shadows[u]
+
+    def account(self, slot, u):
+        if u not in slot.shadows and len(slot.shadows) >= self.allowance:
+            return
+        written = self.slots[u].lead().own
+        slot.shadows[u] = slot.furthest(lambda shadow: not shadow.has_read(written))
+
+    def standing(self, slot, u):
+        shadow = slot.shadows[u]
+        if u == slot.number:
+            return "ended" if shadow.step == len(slot.steps) else "ready"
+        if shadow.step >= slot.lead().step:
+            return "waiting"
+        return "waiting" if shadow.store_read(slot.steps) in self.slots[u].lead().own else "ready"
+
+    def allow(self, k):
+        if not 1 <= k <= 8:
+            raise Refused(2, k)
+        if self.slots:
+            raise Refused(3, min(self.slots))
+        self.allowance = k
+
+    def begin(self, t, data):
+        if t > 7:
+            raise Refused(1, t)
+        if t in self.slots:
+            raise Refused(4, t)
+        self.slots[t] = Slot(t, decode(data))
+
+    def turn(self, t, u, pages, operations):
+        slot, shadow = self.chosen(t, u)
+        standing = self.standing(slot, u)
+        if standing != "ready":
+            return standing
+        if t != u:
+            shadow.take_step(t, slot.steps, pages, operations)
+            return "moved"
+        read = shadow.store_read(slot.steps)
+        written = shadow.written_next(slot.steps)
+        shadow.copy().take_step(t, slot.steps, pages, operations)
+        if read is not None:
+            for other in self.others(t):
+                if other.number not in slot.shadows and read in other.lead().own:
+                    self.account(slot, other.number)
+        shadow.take_step(t, slot.steps, pages, operations)
+        if written is not None:
+            for other in self.others(t):
+                if other.lead().has_read({written}):
+                    if t not in other.shadows or other.shadows[t].has_read({written}):
+                        self.account(other, t)
+        return "moved"
+
+    def commit(self, t, store):
+        lead = self.opened(t).lead()
+        if lead.step < len(self.slots[t].steps):
+            raise Refused(10, lead.step)
+        for page in lead.own:
+            if page >= len(store.pages()):
+                raise Refused(11, t, page)
+        for page, word in lead.own.items():
+            store.put(page, word)
+        del self.slots[t]
+        for slot in self.slots.values():
+            slot.shadows = {u: shadow for u, shadow in slot.shadows.items() if not shadow.has_read(lead.own)}
+            if slot.number not in slot.shadows:
+                slot.shadows[slot.number] = slot.furthest(lambda shadow: True)
+            slot.shadows.pop(t, None)
+        return lead.registers[0], len(lead.own)
+
+    def abort(self, t):
+        self.opened(t)
+        del self.slots[t]
+        for slot in self.slots.values():
+            slot.shadows.pop(t, None)
+
+
+class Book:
+    """Pages, and the scripts of the slots begun since the book was."""
+
+    def __init__(self, pages):
+        self.pages = pages
+        self.scripts = {}
+
+    def commit(self, t, answer, store, operations):
+        if t not in self.scripts:
+            self.pages = store.pages()
+            return
+        flat = FlatStore(list(self.pages))
+        alone = run_alone(decode(self.scripts.pop(t)), flat, operations)
+        self.pages = flat.words
+        assert alone == answer, f"slot {t}: {answer}, and alone {alone}"
+        assert self.pages == store.pages(), f"slot {t}: the pages are not the book's"
+
+
 def number_of(word):
     """A scenario's number; one that is out of range would not be a sound scenario."""
     if not (word.isascii() and word.isdigit() and int(word) < 2**32):
@@ -187,8 +387,59 @@ class Host:
         self.store = None
         self.operations = OPERATIONS["counters"]
         self.scripts = {}
+        self.engine = Engine()
+        self.book = Book([])
 
     def answer(self, name, words):
+        first = self.store is None
+        answer = self.carry_out(name, words)
+        if first and self.store is not None:
+            self.book.pages = self.store.pages()
+        elif name in ("flat", "log", "arithmetic", "put", "load", "alone") and self.store is not None:
+            self.book = Book(self.store.pages())
+        return answer
+
+    def answer_engine(self, name, words):
+        """One of the five calls or a question; None where the name is neither."""
+        engine = self.engine
+        if name == "begin":
+            t, data = number_of(words[0]), self.scripts[words[1]]
+            engine.begin(t, data)
+            self.book.scripts[t] = data
+            return "begun"
+        if name not in ("allow", "turn", "commit", "abort", "stand", "entry", "shadows", "book"):
+            return None
+        numbers = [number_of(word) for word in words]
+        if name == "allow":
+            engine.allow(*numbers)
+            return "allowed"
+        if name == "turn":
+            return engine.turn(*numbers, self.store.pages(), self.operations)
+        if name == "commit":
+            answer = engine.commit(*numbers, self.store)
+            self.book.commit(*numbers, answer, self.store, self.operations)
+            return listed("committed", answer)
+        if name == "abort":
+            engine.abort(*numbers)
+            self.book.scripts.pop(numbers[0], None)
+            return "aborted"
+        if name == "stand":
+            slot, shadow = engine.chosen(*numbers)
+            return f"step {shadow.step} {engine.standing(slot, numbers[1])}"
+        if name == "entry":
+            reads = engine.chosen(*numbers[:2])[1].reads
+            if numbers[2] >= len(reads):
+                return "absent"
+            step, page = reads[numbers[2]]
+            return f"step {step} page {page}"
+        if name == "shadows":
+            return f"{sum(len(slot.shadows) for slot in engine.slots.values())} shadows"
+        return listed("pages", self.book.pages)
+
+    def carry_out(self, name, words):
+        asked = self.answer_engine(name, words)
+        if asked is not None:
+            return asked
         if name in ("flat", "log"):
             kind = FlatStore if name == "flat" else LogStore
             self.store = kind([number_of(word) for word in words])

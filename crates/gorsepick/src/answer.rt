@@ -6,6 +6,8 @@ ghost use Rattle.std.specs.Of.Vec.{vec-items};
 ghost use Rattle.std.specs.Vec.{made, listOf};
 ghost use Rattle.gorsepick.specs.Answers.{Refuses};
 use basics::Refusal;
+use serial::Standing;
+use serial::Turned;
 use std::alloc::AllocError;
 use std::alloc::Global;
 use std::fmt;
@@ -29,11 +31,30 @@ pub(crate) enum Answer {
     // a script run alone came to a step for a page that is not there
     Stopped { step: usize, page: u32 },
     Refused { number: u32, values: Vec<usize> },
+    Allowed,
+    Begun,
+    Took(Turned),
+    // register 0, and the number of pages put
+    Committed { word: u32, pages: usize },
+    Aborted,
+    Stands { step: usize, standing: Standing },
+    // a recorded read
+    Read { step: usize, page: u32 },
+    NoRead,
+    Shadows { count: usize },
 }
 
 impl Answer {
     pub(crate) fn is_silent(&self) -> bool {
         matches!(self, Answer::Silent)
+    }
+
+    // Whether the host has put pages of the store.
+    pub(crate) fn is_change(&self) -> bool {
+        matches!(
+            self,
+            Answer::Written | Answer::Loaded | Answer::Finished { .. }
+        )
     }
 
     // Whether the call was declined.
@@ -91,7 +112,35 @@ pub(crate) impl fmt::Display for Answer as AnswerDisplay {
                 write!(f, "refused {number}")?;
                 show_list(f, "", values.as_slice())
             }
+            Answer::Allowed => f.write_str("allowed"),
+            Answer::Begun => f.write_str("begun"),
+            Answer::Took(turned) => f.write_str(turned_word(*turned)),
+            Answer::Committed { word, pages } => write!(f, "committed {word} {pages}"),
+            Answer::Aborted => f.write_str("aborted"),
+            Answer::Stands { step, standing } => {
+                write!(f, "step {step} ")?;
+                f.write_str(standing_word(*standing))
+            }
+            Answer::Read { step, page } => write!(f, "step {step} page {page}"),
+            Answer::NoRead => f.write_str("absent"),
+            Answer::Shadows { count } => write!(f, "{count} shadows"),
         }
+    }
+}
+
+fn turned_word(turned: Turned) -> &'static str {
+    match turned {
+        Turned::Moved => "moved",
+        Turned::Ended => "ended",
+        Turned::Waiting => "waiting",
+    }
+}
+
+fn standing_word(standing: Standing) -> &'static str {
+    match standing {
+        Standing::AtEnd => "ended",
+        Standing::Halted => "waiting",
+        Standing::Ready => "ready",
     }
 }
 

@@ -1,12 +1,17 @@
 // Gorsepick carries out scenarios: text, a command a line, over page stores in memory.
 mod answer;
+mod book;
 mod command;
 mod failure;
 mod parse;
+mod replay;
 mod session;
+mod shadows;
+mod spoils;
 mod summary;
 mod text;
 
+use answer::Answer;
 use answer::AnswerDisplay;
 use failure::Failure;
 use failure::FailureDisplay;
@@ -14,6 +19,7 @@ use failure::FailureFromAlloc;
 use failure::FailureFromIo;
 use parse::parse_scenario;
 use session::Session;
+use shadows::print_shadows;
 use std::env;
 use std::fs;
 use std::io;
@@ -25,31 +31,35 @@ gorsepick FILE    carries out the scenario in FILE
 gorsepick         carries out the scenario on standard input
 gorsepick --help  prints this
 
-A scenario is text, a command a line, words parted by spaces. # starts a comment,
-and blank lines are passed over. P and W are decimal numbers, 0 to 4294967295; BYTES
-are hexadecimal digits, two a byte, with or without spaces between them; NAME is any word.
+A scenario is text, a command a line, words parted by spaces. # starts a comment. Numbers are
+decimal, 0 to 4294967295; BYTES are hexadecimal digits, two a byte; NAME is any word.
 
   flat W...            takes these words as a flat store
   log W...             takes these words as the memory of a log store
   arithmetic counters  or arithmetic flags: chooses the arithmetic
   script NAME BYTES    keeps the bytes under a name
-  get P                reads a page of the store
-  put P W              puts a word into a page of the store
-  pages                shows all pages of the store
-  words                shows the words of the memory behind the store
+  get P, put P W       reads a page of the store, or puts a word into it
+  pages, words         shows all pages of the store, or the memory behind it
   image BYTES          reads a page image
   load BYTES           loads a page image into the store
   alone NAME           runs a script alone over the store, and puts what it has written
+  allow K              lets each slot have K shadows, 1 to 8; 2 serve until then
+  begin T NAME         opens slot T, 0 to 7, with a script
+  turn T U             one step of slot T's shadow for slot U, or of its leading shadow: U = T
+  commit T             puts what slot T's leading shadow has written, and closes the slot
+  abort T              closes the slot, and puts nothing
+  stand T U            where a shadow stands
+  entry T U I          the step and page of a shadow's read number I, counted from 0
+  shadows              shows every shadow of every open slot
+  book                 the pages of the serial book: each committed script run alone, in order
 
 Each command prints its words, an arrow and its answer; arithmetic and script print nothing.
-A page that is not there is answered by fault P, or by fault STEP P where a script came to
-it; bytes that are no script or no image, or that do not fit the store, by refused and the
-numbers of the refusal. A script that ran to its end is answered by answered R N: what
-register 0 holds, and how many pages were put. A summary ends the output.
+A page that is not there is answered by fault P, or by fault STEP P where a script run alone
+came to it; what is declined, by refused and the numbers of the refusal. A script at its end is
+answered by R N: what register 0 holds, and how many pages were put. A summary ends the output.
 
-The whole scenario is checked before any of it is carried out. The status is 0 when it
-was carried out, and 1 when a line is wrong or the scenario cannot be read; the reason
-then stands on standard error.
+The whole scenario is checked before any of it is carried out. The status is 0 when it was
+carried out, and 1 when a line is wrong or the scenario cannot be read.
 ";
 
 fn main(rt: LibcRuntime) -> Result<(), Failure> {
@@ -90,6 +100,9 @@ fn carry_out(rt: &LibcRuntime, input: io::Result<String>) -> Result<(), Failure>
     for line in parse_scenario(heap, text.as_str())? {
         let answer = session.carry_out(heap, line.command)?;
         tally.count(&answer);
+        if let Answer::Shadows { .. } = &answer {
+            print_shadows(rt, &session.engine)?;
+        }
         if !answer.is_silent() {
             let text = line.text;
             println!(rt, "{text} -> {answer}")?;

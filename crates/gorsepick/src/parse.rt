@@ -4,6 +4,7 @@ ghost use lib.ListN.{length};
 ghost use Rattle.std.specs.Vec.{made};
 use crate::command::Command;
 use crate::command::Line;
+use crate::command::Made;
 use crate::command::Request;
 use crate::failure::Failure;
 use crate::failure::FailureFromRefused;
@@ -100,8 +101,87 @@ fn parse_command(
         "image" => Ok(Command::Image(parse_bytes(heap, words)?)),
         "load" => Ok(Command::Ask(Request::Load(parse_bytes(heap, words)?))),
         "alone" => parse_alone(heap, words, given),
+        _ => match parse_made(heap, name, words, given)? {
+            Some(made) => Ok(Command::Make(made)),
+            None => parse_question(heap, name, words),
+        },
+    }
+}
+
+// One of the five calls, where the name is one of theirs.
+fn parse_made(
+    heap: Global,
+    name: &str,
+    words: &[&str],
+    given: &Given,
+) -> Result<Option<Made>, Mistake> {
+    match name {
+        "allow" => {
+            let allowance = parse_one(heap, words, "allow K")?;
+            Ok(Some(Made::Allow { allowance }))
+        }
+        "begin" => Ok(Some(parse_begin(heap, words, given)?)),
+        "turn" => {
+            let (slot, other) = parse_two(heap, words, "turn T U")?;
+            Ok(Some(Made::Turn { slot, other }))
+        }
+        "commit" => {
+            let slot = parse_one(heap, words, "commit T")?;
+            Ok(Some(Made::Commit { slot }))
+        }
+        "abort" => {
+            let slot = parse_one(heap, words, "abort T")?;
+            Ok(Some(Made::Abort { slot }))
+        }
+        _ => Ok(None),
+    }
+}
+
+// What is asked of the engine or of the serial book.
+fn parse_question(heap: Global, name: &str, words: &[&str]) -> Result<Command, Mistake> {
+    match name {
+        "stand" => {
+            let (slot, other) = parse_two(heap, words, "stand T U")?;
+            Ok(Command::Stand { slot, other })
+        }
+        "entry" => parse_entry(heap, words),
+        "shadows" => {
+            expect(words, 0, "shadows")?;
+            Ok(Command::Shadows)
+        }
+        "book" => {
+            expect(words, 0, "book")?;
+            Ok(Command::Book)
+        }
         _ => Err(Mistake::NoCommand(String::from_str(heap, name)?)),
     }
+}
+
+fn parse_one(heap: Global, words: &[&str], usage: &'static str) -> Result<u32, Mistake> {
+    expect(words, 1, usage)?;
+    parse_number(heap, words[0])
+}
+
+fn parse_two(heap: Global, words: &[&str], usage: &'static str) -> Result<(u32, u32), Mistake> {
+    expect(words, 2, usage)?;
+    let first = parse_number(heap, words[0])?;
+    let second = parse_number(heap, words[1])?;
+    Ok((first, second))
+}
+
+fn parse_begin(heap: Global, words: &[&str], given: &Given) -> Result<Made, Mistake> {
+    expect(words, 2, "begin T NAME")?;
+    let slot = parse_number(heap, words[0])?;
+    let bytes = script_bytes(heap, words[1], given)?;
+    Ok(Made::Begin { slot, bytes })
+}
+
+fn parse_entry(heap: Global, words: &[&str]) -> Result<Command, Mistake> {
+    expect(words, 3, "entry T U I")?;
+    let slot = parse_number(heap, words[0])?;
+    let other = parse_number(heap, words[1])?;
+    let index = parse_number(heap, words[2])?;
+    Ok(Command::Entry { slot, other, index })
 }
 
 // Exactly so many words follow the command's name.

@@ -3,6 +3,7 @@ use crate::answer::Answer;
 use crate::failure::Failure;
 use crate::failure::FailureFromAlloc;
 use crate::failure::FailureFromIo;
+use crate::replay::same_words;
 use crate::session::Kind;
 use crate::session::KindPartialEq;
 use crate::session::Session;
@@ -49,6 +50,66 @@ pub(crate) fn print_summary(
         rt,
         "Commands carried out: {carried_out}; refused or answered with a fault: {declined}."
     )?;
+    if session.uses_engine {
+        print_engine(rt, session, pages.as_slice())?;
+    }
+    Ok(())
+}
+
+// What the transactions came to, beside the serial book.
+fn print_engine(rt: &LibcRuntime, session: &mut Session, pages: &[u32]) -> Result<(), Failure> {
+    session.begin_book(rt.alloc())?;
+    let committed = session.committed;
+    println!(rt, "Transactions committed: {committed}.")?;
+    print_spoils(rt, session)?;
+    if session.book.begun {
+        print_book(rt, session, pages)?;
+    }
+    if session.book.unclaimed {
+        println!(
+            rt,
+            "The host changed store, arithmetic or pages while transactions were open: serial booking is not claimed for those."
+        )?;
+    }
+    Ok(())
+}
+
+fn print_spoils(rt: &LibcRuntime, session: &Session) -> Result<(), Failure> {
+    let took_over = session.spoils.took_over;
+    let started_over = session.spoils.started_over;
+    println!(
+        rt,
+        "After a conflict a shadow took over: {took_over}; a transaction started over: {started_over}."
+    )?;
+    Ok(())
+}
+
+fn print_book(rt: &LibcRuntime, session: &Session, pages: &[u32]) -> Result<(), Failure> {
+    let book = &session.book;
+    print_pages(rt, "The serial book", book.pages.as_slice())?;
+    if book.agrees && same_words(book.pages.as_slice(), pages) {
+        println!(rt, "Pages and answers are equal to the serial book's.")?;
+    } else {
+        println!(rt, "Pages or answers differ from the serial book's.")?;
+    }
+    if book.whole {
+        print_replay(rt, session)?;
+    }
+    Ok(())
+}
+
+fn print_replay(rt: &LibcRuntime, session: &Session) -> Result<(), Failure> {
+    if session.replays(rt.alloc())? {
+        println!(
+            rt,
+            "The calls since the book began, made again on a fresh engine, left the same pages and answers."
+        )?;
+    } else {
+        println!(
+            rt,
+            "The calls since the book began, made again on a fresh engine, left other pages or answers."
+        )?;
+    }
     Ok(())
 }
 
