@@ -1,4 +1,6 @@
 // What a script's combine step computes with.
+#![tactic(auto)]
+
 ghost use Rattle.std.specs.Prelude.{◌≡◌, ℕ};
 ghost use Rattle.arithmetic.specs.Words.{counters, flags, delivered, from_number, number};
 ghost use Rattle.arithmetic.specs.declared.Operation.{Operation};

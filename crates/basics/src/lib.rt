@@ -1,4 +1,6 @@
 // What every layer shares: numbers as bytes, and how a refusal is told.
+#![tactic(auto)]
+
 ghost use Rattle.std.specs.Prelude.{◌≡◌, ℕ, List};
 ghost use Rattle.std.specs.List.{slice_get};
 ghost use Rattle.basics.specs.Bytes.{word_at};

@@ -1,4 +1,6 @@
 // The engine: shadows, and scripts that they run.
+#![tactic(auto)]
+
 mod alone;
 mod engine;
 mod row;

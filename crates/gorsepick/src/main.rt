@@ -1,4 +1,6 @@
 // Gorsepick carries out scenarios: text, a command a line, over page stores in memory.
+#![tactic(auto)]
+
 mod answer;
 mod book;
 mod command;

@@ -1,4 +1,6 @@
 // Runs with known ends, shown from the rules by computation.
+#![tactic(auto)]
+
 ghost use Rattle.known_runs.specs.Runs.{AllHold};
 ghost use Rattle.known_runs.specs.Known.{known_runs};
 

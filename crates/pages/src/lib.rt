@@ -1,4 +1,6 @@
 // Pages of words: what a reader and a store of them are, and the stores, images and loading that are delivered.
+#![tactic(auto)]
+
 ghost use Rattle.std.specs.Prelude.{◌≡◌, ℕ, ◌≤◌, List, length};
 ghost use Rattle.pages.specs.Pages.{word_at, Put};
 

@@ -1,4 +1,6 @@
 // Scripts: what a transaction does, decoded from the bytes that the host hands over.
+#![tactic(auto)]
+
 ghost use Rattle.std.specs.Prelude.{◌≡◌, ℕ, List};
 ghost use Rattle.script.specs.Script.{script_cause, script_returned};
 

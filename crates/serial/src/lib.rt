@@ -1,5 +1,7 @@
 // The theory of the engine: what a run alone is, what the rules are, and that they book serially. Types that the engine's
 // calls share, and no state.
+#![tactic(auto)]
+
 ghost use Rattle.serial.specs.Book.{EveryListBooked};
 ghost use Rattle.serial.specs.Laws.{StepsRise, RunsDetermined, ReadsGrow, UnreadReached, StandFound};
 ghost use Rattle.serial.specs.Sound.{EnginesStaySound};
