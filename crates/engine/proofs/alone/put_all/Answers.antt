@@ -7,8 +7,8 @@ use Rattle.engine.proofs.Stands.{inside_at}
 use Rattle.engine.proofs.Puts.{puts_more, chain_more}
 use Rattle.engine.proofs.alone.put_all.Goals as goal
 
-pub put-entry-requires : goal.put-entry-requires
-put-entry-requires g c =
+pub put_entry-requires : goal.put_entry-requires
+put_entry-requires g c =
     let before = g.S.Reader.pages c.args.store.now in
     let own = c.args.own.now in
     let i = c.loop-entry.entry-index in
@@ -21,8 +21,8 @@ loop-entry-preserved g c =
     let own = c.args.own.now in
     let i = c.loop-entry.entry-index in
     let low = c.loop-entry-test.true in (
-      puts_more own i low (g.S.Reader.pages c.args.store.now) (g.S.Reader.pages c.loop-entry.store) (g.S.Reader.pages c.put-entry.new.store) c.loop-entry.invariant.0 c.put-entry.ensures.pages,
-      chain_more own i low g.S.Store.wrote c.args.store.now c.loop-entry.store c.put-entry.new.store c.loop-entry.invariant.1 c.put-entry.ensures.wrote,
+      puts_more own i low (g.S.Reader.pages c.args.store.now) (g.S.Reader.pages c.loop-entry.store) (g.S.Reader.pages c.put_entry.new.store) c.loop-entry.invariant.0 c.put_entry.ensures.pages,
+      chain_more own i low g.S.Store.wrote c.args.store.now c.loop-entry.store c.put_entry.new.store c.loop-entry.invariant.1 c.put_entry.ensures.wrote,
     )
 
 pub returns : goal.returns

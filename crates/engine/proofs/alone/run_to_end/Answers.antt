@@ -33,7 +33,7 @@ loop-step-smaller g c =
     let t = c.advance.new.shadow in
     let st = c.in-Some.step in
     let at = looked_up script c.step.result c.loop-step.shadow.step (Some c.in-Some.step) c.step.ensures c.in-Some.ensures in
-    let moves = next_taken ar script pages (stand_of s) (stand_of t) st at (advanced_ok s t (takes ar pages st (stand_of s)) c.in-ok-advance.ensures) in
+    let moves = next_taken ar script pages (stand_of s) (stand_of t) st at (advanced_ok s t (takes ar pages st (stand_of s)) c.in_ok-advance.ensures) in
     let low : s.step < length script = slice_get_within script s.step st at in
     let rises : s.step < t.step = next-rises ar script pages (stand_of s) (stand_of t) moves in
     omega arith
@@ -47,17 +47,17 @@ loop-step-preserved g c =
     let t = c.advance.new.shadow in
     let st = c.in-Some.step in
     let at = looked_up script c.step.result c.loop-step.shadow.step (Some c.in-Some.step) c.step.ensures c.in-Some.ensures in
-    let moves = next_taken ar script pages (stand_of s) (stand_of t) st at (advanced_ok s t (takes ar pages st (stand_of s)) c.in-ok-advance.ensures) in
+    let moves = next_taken ar script pages (stand_of s) (stand_of t) st at (advanced_ok s t (takes ar pages st (stand_of s)) c.in_ok-advance.ensures) in
     leads_snoc ar script pages (stand_of t) c.loop-step.invariant moves
 
-pub returns-in-err-advance : goal.returns-in-err-advance
-returns-in-err-advance g c =
+pub returns-in_err-advance : goal.returns-in_err-advance
+returns-in_err-advance g c =
     let ar = g.A.Arithmetic.meaning c.args.arithmetic.now in
     let pages = g.R.Reader.pages c.args.reader.now in
     let script = steps_of c.args.script.now in
     let at = looked_up script c.step.result c.loop-step.shadow.step (Some c.in-Some.step) c.step.ensures c.in-Some.ensures in
-    let p = err_from_is_err_and {Q = λ f. f ≡ c.in-err-advance.field-0.0} c.from-residual.result c.from-residual.ensures.1 in
-    rw (p.1, p.2) (run_faults ar script pages c.loop-step.shadow c.advance.new.shadow c.in-Some.step c.in-err-advance.field-0.0 c.loop-step.invariant at c.in-err-advance.ensures)
+    let p = err_from_is_err_and {Q = λ f. f ≡ c.in_err-advance.field-0.0} c.from-residual.result c.from-residual.ensures.1 in
+    rw (p.1, p.2) (run_faults ar script pages c.loop-step.shadow c.advance.new.shadow c.in-Some.step c.in_err-advance.field-0.0 c.loop-step.invariant at c.in_err-advance.ensures)
 
 pub returns : goal.returns
 returns g c =
@@ -65,7 +65,7 @@ returns g c =
     let pages = g.R.Reader.pages c.args.reader.now in
     let script = steps_of c.args.script.now in
     let s = stand_of c.loop-step.shadow in
-    let none = looked_up script c.step.result c.loop-step.shadow.step None c.step.ensures c.in-default.ensures in (
+    let none = looked_up script c.step.result c.loop-step.shadow.step None c.step.ensures c.in_default.ensures in (
       run_ends ar script pages s c.requires.ends c.loop-step.invariant none,
       (leads-sound ar script pages c.loop-step.invariant (start-sound pages)).inside,
     )

@@ -7,5 +7,5 @@ pub loop-index-preserved : goal.loop-index-preserved
 loop-index-preserved g c =
     let all = g.F.Refusal.returned c.args.fault.now in
     let i = c.loop-index.index in
-    c.in-ok-push-value.ensures ∙ ap (λ s. s ++ option_to_list c.value.result) c.loop-index.invariant
+    c.in_ok-push_value.ensures ∙ ap (λ s. s ++ option_to_list c.value.result) c.loop-index.invariant
     ∙ ap (λ o. take i all ++ option_to_list o) c.value.ensures ∙ sym (take_value all i)

@@ -6,8 +6,8 @@ pub loop-page-preserved : goal.loop-page-preserved
 loop-page-preserved g c =
     let all = g.R.Reader.pages c.args.reader.now in
     let i = c.loop-page.page in
-    c.in-ok-push.ensures.items ∙ ap (λ s. s ++ c.page-word.result ∷ []) c.loop-page.invariant
-    ∙ ap (λ w. take i all ++ w ∷ []) c.page-word.ensures ∙ sym (take_more all i 0 (omega arith))
+    c.in_ok-push.ensures.items ∙ ap (λ s. s ++ c.page_word.result ∷ []) c.loop-page.invariant
+    ∙ ap (λ w. take i all ++ w ∷ []) c.page_word.ensures ∙ sym (take_more all i 0 (omega arith))
 
 pub returns : goal.returns
 returns g c =

@@ -9,8 +9,8 @@ pub loop-word-preserved : goal.loop-word-preserved
 loop-word-preserved c =
     let words = c.args.words.now in
     let so = halves (vec_items c.loop-word.bytes) ++ option_to_list c.loop-word.high in
-    let after = halves (vec_items c.push-digits.new.bytes) ++ option_to_list c.in-ok-high.high in
-    let pushed = c.in-ok-high.ensures in
+    let after = halves (vec_items c.push_digits.new.bytes) ++ option_to_list c.in_ok-high.high in
+    let pushed = c.in_ok-high.ensures in
     (pushed.0, word_push so after words c.loop-word.word-index _ (omega arith) pushed.1 c.loop-word.invariant.1)
 
 pub returns-in-None : goal.returns-in-None

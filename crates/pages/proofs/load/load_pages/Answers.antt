@@ -12,11 +12,11 @@ loop-page-preserved g c =
     let inv = c.loop-page.invariant in
     let long : length so ≡ length from = inv.0 in
     let below : i < length from = omega arith in
-    let put = c.copy-page.ensures.pages in (
+    let put = c.copy_page.ensures.pages in (
       ap length put ∙ length-set so i (get_or from i 0) ∙ long,
       ap (take _) put ∙ filled_more so from i (omega arith) below inv.1,
-      subst (λ es. Chain wrote c.args.into.now es c.copy-page.new.into) (numbered_more from i below)
-          (chain_push wrote _ _ _ (numbered 0 (take i from)) i (get_or from i 0) inv.2 c.copy-page.ensures.wrote),
+      subst (λ es. Chain wrote c.args.into.now es c.copy_page.new.into) (numbered_more from i below)
+          (chain_push wrote _ _ _ (numbered 0 (take i from)) i (get_or from i 0) inv.2 c.copy_page.ensures.wrote),
     )
 
 pub returns : goal.returns

@@ -5,8 +5,8 @@ use Rattle.basics.proofs.trail.Trail.get.Goals as goal
 
 pub returns-then-index-all : goal.returns-then-index-all
 returns-then-index-all g c =
-    sym (ap (λ xs. slice_get xs c.args.index) (sym c.as-slice-all.ensures.items) ∙ slice_get_read c.as-slice-all.result.now _ c.args.index _ refl c.if-index-all.true c.index-all-index.is)
+    sym (ap (λ xs. slice_get xs c.args.index) (sym c.as_slice-all.ensures.items) ∙ slice_get_read c.as_slice-all.result.now _ c.args.index _ refl c.if-index-all.true c.index-all-index.is)
 
 pub returns-else-index-all : goal.returns-else-index-all
 returns-else-index-all g c =
-    sym (ap (λ xs. slice_get xs c.args.index) (sym c.as-slice-all.ensures.items) ∙ slice_get_past c.as-slice-all.result.now c.args.index c.if-index-all.false)
+    sym (ap (λ xs. slice_get xs c.args.index) (sym c.as_slice-all.ensures.items) ∙ slice_get_past c.as_slice-all.result.now c.args.index c.if-index-all.false)

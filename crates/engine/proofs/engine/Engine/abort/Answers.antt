@@ -8,13 +8,13 @@ use Rattle.engine.specs.Calls.{state_of}
 use Rattle.engine.proofs.Kept.{kept_by, idle}
 use Rattle.engine.proofs.engine.Engine.abort.Goals as goal
 
-pub invariant-of-self : goal.invariant-of-self
-invariant-of-self c =
+pub invariant_of-self : goal.invariant_of-self
+invariant_of-self c =
     let e = engine_of c.args.self.now.table in
-    let t = c.in-ok-t.t in
-    let is = c.in-ok-t.ensures in
-    let opened : is_open e t ≡ true = sym c.is-open.ensures ∙ c.if-not-is-open.false in
+    let t = c.in_ok-t.t in
+    let is = c.in_ok-t.ensures in
+    let opened : is_open e t ≡ true = sym c.is_open.ensures ∙ c.if-not-is_open.false in
     let sc = some_is (script_of e t) opened in
-    kept_by idle (abort t) c.args.self.now [] [] c.close-slot.new.self (closed e t e.shadows) Aborted
+    kept_by idle (abort t) c.args.self.now [] [] c.close_slot.new.self (closed e t e.shadows) Aborted
     (abort_by (state_of c.args.self.now []) t (Some sc.0) is.1 sc.1)
-    c.close-slot.ensures
+    c.close_slot.ensures

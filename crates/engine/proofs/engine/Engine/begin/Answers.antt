@@ -8,13 +8,13 @@ use Rattle.engine.specs.Calls.{state_of}
 use Rattle.engine.proofs.Kept.{kept_by, idle}
 use Rattle.engine.proofs.engine.Engine.begin.Goals as goal
 
-pub invariant-of-self : goal.invariant-of-self
-invariant-of-self c =
+pub invariant_of-self : goal.invariant_of-self
+invariant_of-self c =
     let e = engine_of c.args.self.now.table in
-    let t = c.in-ok-t.t in
-    let is = c.in-ok-t.ensures in
-    let free : is_open e t ≡ false = sym c.is-open.ensures ∙ c.if-is-open.false in
-    let script = steps_of c.in-ok-steps.steps in
-    kept_by idle (begin t c.args.script.now) c.args.self.now [] [] c.open-slot.new.self (begun e t script) Begun
-    (begin_by (state_of c.args.self.now []) t c.args.script.now (Ok script) is.1 free c.in-ok-steps.ensures.rule)
-    c.open-slot.ensures
+    let t = c.in_ok-t.t in
+    let is = c.in_ok-t.ensures in
+    let free : is_open e t ≡ false = sym c.is_open.ensures ∙ c.if-is_open.false in
+    let script = steps_of c.in_ok-steps.steps in
+    kept_by idle (begin t c.args.script.now) c.args.self.now [] [] c.open_slot.new.self (begun e t script) Begun
+    (begin_by (state_of c.args.self.now []) t c.args.script.now (Ok script) is.1 free c.in_ok-steps.ensures.rule)
+    c.open_slot.ensures

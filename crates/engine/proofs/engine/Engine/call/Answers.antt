@@ -11,8 +11,8 @@ returns-in-SetAllowance g c =
     let ar = g.A.Arithmetic.meaning c.args.arithmetic.now in
     let pages = g.S.Reader.pages c.args.store.now in
     record {
-      rule = ap (λ x. does ar (call_of x) (state_of c.args.self.now pages)) c.in-SetAllowance.is ∙ c.set_allowance.ensures.rule pages ∙ ap (λ a. (state_of c.set_allowance.new.self pages, a)) (sym c.answer-unit.ensures);
-      puts = subst (λ x. Chain g.S.Store.wrote c.args.store.now (list_put (engine_of c.args.self.now.table) (call_of x) c.answer-unit.result) c.args.store.now) (sym c.in-SetAllowance.is) refl;
+      rule = ap (λ x. does ar (call_of x) (state_of c.args.self.now pages)) c.in-SetAllowance.is ∙ c.set_allowance.ensures.rule pages ∙ ap (λ a. (state_of c.set_allowance.new.self pages, a)) (sym c.answer_unit.ensures);
+      puts = subst (λ x. Chain g.S.Store.wrote c.args.store.now (list_put (engine_of c.args.self.now.table) (call_of x) c.answer_unit.result) c.args.store.now) (sym c.in-SetAllowance.is) refl;
     }
 
 pub returns-in-Begin : goal.returns-in-Begin
@@ -20,8 +20,8 @@ returns-in-Begin g c =
     let ar = g.A.Arithmetic.meaning c.args.arithmetic.now in
     let pages = g.S.Reader.pages c.args.store.now in
     record {
-      rule = ap (λ x. does ar (call_of x) (state_of c.args.self.now pages)) c.in-Begin.is ∙ c.begin.ensures.rule pages ∙ ap (λ a. (state_of c.begin.new.self pages, a)) (sym c.answer-unit-in-Begin.ensures);
-      puts = subst (λ x. Chain g.S.Store.wrote c.args.store.now (list_put (engine_of c.args.self.now.table) (call_of x) c.answer-unit-in-Begin.result) c.args.store.now) (sym c.in-Begin.is) refl;
+      rule = ap (λ x. does ar (call_of x) (state_of c.args.self.now pages)) c.in-Begin.is ∙ c.begin.ensures.rule pages ∙ ap (λ a. (state_of c.begin.new.self pages, a)) (sym c.answer_unit-in-Begin.ensures);
+      puts = subst (λ x. Chain g.S.Store.wrote c.args.store.now (list_put (engine_of c.args.self.now.table) (call_of x) c.answer_unit-in-Begin.result) c.args.store.now) (sym c.in-Begin.is) refl;
     }
 
 pub returns-in-Abort : goal.returns-in-Abort
@@ -29,6 +29,6 @@ returns-in-Abort g c =
     let ar = g.A.Arithmetic.meaning c.args.arithmetic.now in
     let pages = g.S.Reader.pages c.args.store.now in
     record {
-      rule = ap (λ x. does ar (call_of x) (state_of c.args.self.now pages)) c.in-Abort.is ∙ c.abort.ensures.rule pages ∙ ap (λ a. (state_of c.abort.new.self pages, a)) (sym c.answer-unit-in-Abort.ensures);
-      puts = subst (λ x. Chain g.S.Store.wrote c.args.store.now (list_put (engine_of c.args.self.now.table) (call_of x) c.answer-unit-in-Abort.result) c.args.store.now) (sym c.in-Abort.is) refl;
+      rule = ap (λ x. does ar (call_of x) (state_of c.args.self.now pages)) c.in-Abort.is ∙ c.abort.ensures.rule pages ∙ ap (λ a. (state_of c.abort.new.self pages, a)) (sym c.answer_unit-in-Abort.ensures);
+      puts = subst (λ x. Chain g.S.Store.wrote c.args.store.now (list_put (engine_of c.args.self.now.table) (call_of x) c.answer_unit-in-Abort.result) c.args.store.now) (sym c.in-Abort.is) refl;
     }

@@ -12,16 +12,16 @@ use Rattle.engine.specs.Calls.{state_of}
 use Rattle.engine.proofs.Kept.{kept_by, idle}
 use Rattle.engine.proofs.engine.Engine.commit.Goals as goal
 
-pub invariant-of-self : goal.invariant-of-self
-invariant-of-self g c =
+pub invariant_of-self : goal.invariant_of-self
+invariant_of-self g c =
     let e = engine_of c.args.self.now.table in
-    let t = c.in-ok-t.t in
+    let t = c.in_ok-t.t in
     let pages = g.S.Reader.pages c.args.store.now in
-    let lead = stand_of c.lead-of-lead.result in
+    let lead = stand_of c.lead_of-lead.result in
     let sc = steps_of c.in-Some.script in
     let far : length sc ≤ lead.step = omega (arith, c.if-step-len.false, c.len.ensures.count, c.step.ensures) in
     let none : first_off (length pages) lead.own ≡ None =
-    ap (λ n. first_off n lead.own) (sym c.size.ensures) ∙ ap (first_off c.size.result) (sym c.own.ensures) ∙ sym c.first-missing.ensures.rule ∙ c.in-default-first-missing.is in
-    kept_by idle (commit t) c.args.self.now pages (put_all lead.own pages) c.commit-slot.new.self (committed e t lead.own) (Committed (holds lead R0) (length lead.own))
-    (commit_by_puts (state_of c.args.self.now pages) t sc lead None c.in-ok-t.ensures.1 (sym c.in-Some.ensures) (sym c.lead-of-lead.ensures) far none)
-    (c.commit-slot.ensures ∙ ap (committed e t) c.own-3.ensures)
+    ap (λ n. first_off n lead.own) (sym c.size.ensures) ∙ ap (first_off c.size.result) (sym c.own.ensures) ∙ sym c.first_missing.ensures.rule ∙ c.in_default-first_missing.is in
+    kept_by idle (commit t) c.args.self.now pages (put_all lead.own pages) c.commit_slot.new.self (committed e t lead.own) (Committed (holds lead R0) (length lead.own))
+    (commit_by_puts (state_of c.args.self.now pages) t sc lead None c.in_ok-t.ensures.1 (sym c.in-Some.ensures) (sym c.lead_of-lead.ensures) far none)
+    (c.commit_slot.ensures ∙ ap (committed e t) c.own-3.ensures)

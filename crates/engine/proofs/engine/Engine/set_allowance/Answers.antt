@@ -7,10 +7,10 @@ use Rattle.engine.specs.Calls.{state_of}
 use Rattle.engine.proofs.Kept.{kept_by, idle}
 use Rattle.engine.proofs.engine.Engine.set_allowance.Goals as goal
 
-pub invariant-of-self : goal.invariant-of-self
-invariant-of-self c =
+pub invariant_of-self : goal.invariant_of-self
+invariant_of-self c =
     let low : 1 ≤ c.args.k = omega arith in
     let high : c.args.k ≤ 8 = omega arith in
     kept_by idle (set_allowance c.args.k) c.args.self.now [] [] c.set_allowance.new.self (with_allowance (engine_of c.args.self.now.table) c.args.k) Allowed
-    (allow_by (state_of c.args.self.now []) c.args.k None low high (sym c.first_open.ensures.lowest ∙ c.in-default.is))
+    (allow_by (state_of c.args.self.now []) c.args.k None low high (sym c.first_open.ensures.lowest ∙ c.in_default.is))
     c.set_allowance.ensures

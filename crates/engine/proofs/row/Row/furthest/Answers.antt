@@ -4,4 +4,4 @@ use Rattle.engine.proofs.Rows.{furthest_any}
 use Rattle.engine.proofs.row.Row.furthest.Goals as goal
 
 pub returns : goal.returns
-returns c = c.furthest-clean.ensures ∙ furthest_any c.args.t (row_of c.args.self.now)
+returns c = c.furthest_clean.ensures ∙ furthest_any c.args.t (row_of c.args.self.now)

@@ -14,17 +14,17 @@ step-requires g c =
       room = lead_room b m c.args.t c.args.step.now s c.store_read.result c.requires.there c.before_step.ensures c.requires.room;
     }
 
-pub returns-in-err-step : goal.returns-in-err-step
-returns-in-err-step g c =
+pub returns-in_err-step : goal.returns-in_err-step
+returns-in_err-step g c =
     let ar = g.A.Arithmetic.meaning c.args.arithmetic.now in
     let pages = g.R.Reader.pages c.args.reader.now in
     let b = c.args.self.now in
     let m = c.before_step.new.self in
     let s = stand_of c.args.lead.now in
     let k = takes ar pages c.args.step.now s in
-    let goes = passed ar pages s c.args.step.now c.check-step.result c.in-ok-check-step.field-0 c.check-step.ensures c.in-ok-check-step.was in
+    let goes = passed ar pages s c.args.step.now c.check_step.result c.in_ok-check_step.field-0 c.check_step.ensures c.in_ok-check_step.was in
     let h = lead_stepped b m c.args.t c.args.step.now s c.store_read.result c.requires.there c.before_step.ensures ar pages c.step.result c.step.new.self c.step.ensures in
-    never_stops m c.step.new.self _ k c.step.result c.in-err-step.field-0.0 goes.0 goes.1 h c.in-err-step.was
+    never_stops m c.step.new.self _ k c.step.result c.in_err-step.field-0.0 goes.0 goes.1 h c.in_err-step.was
 
 pub returns : goal.returns
 returns g c =
@@ -36,4 +36,4 @@ returns g c =
     let k = takes ar pages c.args.step.now s in
     let h = lead_stepped b m c.args.t c.args.step.now s c.store_read.result c.requires.there c.before_step.ensures ar pages c.step.result c.step.new.self c.step.ensures in
     lead_moved b m c.args.t c.args.step.now s c.store_read.result c.requires.there c.before_step.ensures k c.step.result c.step.new.self c.after_step.new.self
-    c.in-ok-step.field-0 c.write_of.result c.store_read.ensures h c.in-ok-step.was c.after_step.ensures c.write_of.ensures
+    c.in_ok-step.field-0 c.write_of.result c.store_read.ensures h c.in_ok-step.was c.after_step.ensures c.write_of.ensures
