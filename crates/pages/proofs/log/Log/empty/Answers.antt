@@ -12,7 +12,7 @@ pub invariant_of-self : goal.invariant_of-self
 invariant_of-self c =
     let h = sym c.args.self.now.ok ∙ c.requires.fit in
     let fit : sound c.loop-i.self.words.now ≡ true = sym c.loop-i.self.ok ∙ c.loop-i.invariant.2 in
-    (c.loop-i.invariant.2 ∙ sym (turn-sound c.args.self.now.words.now h c.requires.full c.loop-i.self.words.now c.loop-i.i c.loop-i.invariant.0 c.loop-i-test.true fit), tt)
+    record { ok = c.loop-i.invariant.2 ∙ sym (turn-sound c.args.self.now.words.now h c.requires.full c.loop-i.self.words.now c.loop-i.i c.loop-i.invariant.0 c.loop-i-test.true fit) }
 
 pub loop-i-preserved : goal.loop-i-preserved
 loop-i-preserved c =
