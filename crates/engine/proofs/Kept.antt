@@ -17,10 +17,20 @@ whole e = (e.eight, e.allowance, e.bare, e.led, e.few, e.«open», e.scripts, e.
 -- as the ghost fields of a table hold it
 abbrev pub Spread : Table → Type 0
 Spread t =
-    Eight (engine_of t) × (AllowanceFits (engine_of t) × (ClosedBare (engine_of t) × (OpenLed (engine_of t) × (WithinAllowance (engine_of t) × (ForOpen (engine_of t) × (ScriptsFit (engine_of t) × (ShadowsFit (engine_of t) × Unit {0})))))))
+    record {
+      eight : Eight (engine_of t);
+      allowance : AllowanceFits (engine_of t);
+      bare : ClosedBare (engine_of t);
+      led : OpenLed (engine_of t);
+      few : WithinAllowance (engine_of t);
+      «open» : ForOpen (engine_of t);
+      scripts : ScriptsFit (engine_of t);
+      shadows : ShadowsFit (engine_of t)
+    }
 
 pub spread : (t : Table) → SoundEngine (engine_of t) → Spread t
-spread t h = (h.0, (h.1, (h.2, (h.3, (h.4, (h.5, (h.6, (h.7, tt))))))))
+spread t h =
+    record { eight = h.0; allowance = h.1; bare = h.2; led = h.3; few = h.4; «open» = h.5; scripts = h.6; shadows = h.7 }
 
 -- the table that a call leaves is sound
 pub kept_by : (ar : Meaning) (c : Call) (e : Held) (pages pages' : List ℕ) (t : Table) (x : Engine) (a : Answer) → does ar c (state_of e pages) ≡ (record { engine = x; pages = pages' }, a) → engine_of t ≡ x → Spread t

@@ -56,7 +56,7 @@ returns-in_err-advance g c =
     let pages = g.R.Reader.pages c.args.reader.now in
     let script = steps_of c.args.script.now in
     let at = looked_up script c.step.result c.loop-step.shadow.step (Some c.in-Some.step) c.step.ensures c.in-Some.ensures in
-    let p = err_from_is_err_and {Q = λ f. f ≡ c.in_err-advance.field-0.0} c.from-residual.result c.from-residual.ensures.1 in
+    let p = err_from_is_err_and {Q = λ f. f ≡ c.in_err-advance.field-0.0} c.from_residual.result c.from_residual.ensures.1 in
     rw (p.1, p.2) (run_faults ar script pages c.loop-step.shadow c.advance.new.shadow c.in-Some.step c.in_err-advance.field-0.0 c.loop-step.invariant at c.in_err-advance.ensures)
 
 pub returns : goal.returns

@@ -10,7 +10,7 @@ pub loop-entry-init : goal.loop-entry-init
 loop-entry-init c =
     let all = c.args.self.now.entries in
     let test = unread c.args.list.now in
-    ap (λ b. furthest test b (view all)) (c.better_best.ensures ∙ ap (better test None) (at_map (option_map stand_of) None all c.args.t))
+    ap (λ b. furthest test b (view all)) (c.better-best.ensures ∙ ap (better test None) (at_map (option_map stand_of) None all c.args.t))
 
 pub loop-entry-preserved : goal.loop-entry-preserved
 loop-entry-preserved c =
