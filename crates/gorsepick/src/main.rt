@@ -18,6 +18,7 @@ use failure::Failure;
 use parse::parse_scenario;
 use session::Session;
 use shadows::print_shadows;
+use std::process::ExitCode;
 use std::{env, fs, io};
 use summary::{Tally, print_summary};
 
@@ -57,12 +58,15 @@ The whole scenario is checked before any of it is carried out. The status is 0 w
 carried out, and 1 when a line is wrong or the scenario cannot be read.
 ";
 
-fn main(rt: HostRuntime) -> Result<(), Failure> {
-    let result = run(&rt);
-    if let Err(failure) = &result {
-        eprintln!(rt; "{failure}")?;
+fn main(rt: HostRuntime) -> ExitCode {
+    match run(&rt) {
+        Ok(()) => ExitCode::SUCCESS,
+        Err(failure) => {
+            // Where nothing can be written, the status alone tells of the failure.
+            let _ = eprintln!(rt; "{failure}");
+            ExitCode::FAILURE
+        }
     }
-    result
 }
 
 fn run(rt: &HostRuntime) -> Result<(), Failure> {
@@ -74,7 +78,7 @@ fn run(rt: &HostRuntime) -> Result<(), Failure> {
     match first {
         None => carry_out(rt, io::read_to_string(rt.alloc(), rt.stdin())),
         Some(argument) => {
-            if argument == "--help" {
+            if argument.as_str() == "--help" {
                 print!(rt; "{HELP}")?;
                 return Ok(());
             }

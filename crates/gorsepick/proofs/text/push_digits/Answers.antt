@@ -9,10 +9,10 @@ loop-digit-preserved c =
     let word = c.args.word.now in
     let before = map Some (halves (vec_items c.args.bytes.now) ++ option_to_list c.args.high) in
     let so = halves (vec_items c.loop-digit.bytes) ++ option_to_list c.loop-digit.high in
-    let after = halves (vec_items c.push_half.new.bytes) ++ option_to_list c.in_ok-high.high in
+    let after = halves (vec_items c.push_half.new.bytes) ++ option_to_list c.in_ok-high-in-Some.high in
     let i = c.loop-digit.digit-index in
     let worth = c.in-Some.ensures.value ∙ ap (λ ds. digit_value (get_or ds i 0)) c.as_bytes-digit-items.ensures.value in
-    let pushed = c.in_ok-high.ensures in
+    let pushed = c.in_ok-high-in-Some.ensures in
     (pushed.0, digit_push so word before i c.in-Some.half after (omega arith) worth pushed.1 c.loop-digit.invariant.1)
 
 pub returns : goal.returns
