@@ -1,5 +1,5 @@
 -- Numbers as bytes. Assumes nothing.
-use Rattle.std.specs.Prelude.{ℕ, ◌+◌, ◌*◌, ◌^◌, cond, List, length, Some, None, Option, nat_le, slice_index}
+use Rattle.std.specs.Prelude.{ℕ, ◌+◌, ◌*◌, cond, List, length, Some, None, Option, nat_le, slice_index}
 
 -- four bytes from `at` on, most significant first; a byte that is not there counts as 0
 abbrev pub big_endian : List ℕ → ℕ → ℕ

@@ -1,10 +1,9 @@
 -- One turn of the loop that carries out a list of calls. Assumes nothing.
-use Rattle.std.proofs.Common.{◌≡◌, ℕ, ◌+◌, ◌<◌, List, [], ◌∷◌, ◌++◌, length, get_or, sym, refl, ap, ◌∙◌, subst}
+use Rattle.std.proofs.Common.{◌≡◌, ℕ, ◌+◌, ◌<◌, List, [], ◌∷◌, ◌++◌, length, get_or, sym, ap, ◌∙◌}
 use Rattle.std.proofs.lemmas.List.{map_more}
-use Rattle.pages.specs.declared.WriteEntry.{WriteEntry}
 use Rattle.serial.specs.declared.fault.Answer.{Answer}
 use Rattle.serial.specs.Machine.{Meaning}
-use Rattle.serial.specs.Rules.{State, fresh, does, after, answers, list_put, lists_put}
+use Rattle.serial.specs.Rules.{State, does, after, answers, list_put, lists_put}
 use Rattle.serial.proofs.Histories.{after_push, answers_push, lists_push}
 use Rattle.engine.specs.declared.engine.booking.Call.{Call as Given}
 use Rattle.engine.specs.declared.engine.booking.Call.TheVariants.{SetAllowance}

@@ -1,11 +1,9 @@
 -- What the calls of the table come to, as the rules have it. Assumes nothing.
-use Rattle.std.proofs.Common.{◌≡◌, ℕ, ◌<◌, ◌≤◌, List, [], length, Some, None, Ok, Err, Option, Result, sym, refl, ap, ◌∙◌, subst, arith}
-use Rattle.std.specs.List.{slice_get}
+use Rattle.std.proofs.Common.{◌≡◌, ℕ, ◌≤◌, List, Some, None, Ok, Err, Option, Result, sym, refl, ap, ◌∙◌, subst}
 use Rattle.std.proofs.iter.runs.Lists.{nth_read}
 use Rattle.pages.specs.Pages.{fault_at}
 use Rattle.script.specs.declared.Register.TheVariants.{R0}
 use Rattle.script.specs.declared.Action.TheVariants.{Set}
-use Rattle.script.specs.declared.Step.{Step}
 use Rattle.serial.specs.declared.fault.StepFault.{StepFault}
 use Rattle.serial.specs.declared.fault.CallFault.TheVariants.{OffPages}
 use Rattle.serial.specs.declared.fault.Standing.TheVariants.{Ready}
@@ -15,7 +13,7 @@ use Rattle.serial.specs.declared.fault.Answer.TheVariants.{Took, Declined}
 use Rattle.serial.specs.Faults.{step_fault}
 use Rattle.serial.specs.Machine.{Meaning, Steps, Stand, Taken, moved, off_pages}
 use Rattle.serial.specs.Alone.{try_step, next}
-use Rattle.serial.specs.Rules.{Engine, State, script_of, shadow, standing, shadow_moves, turns, turn}
+use Rattle.serial.specs.Rules.{script_of, shadow, standing, shadow_moves, turns, turn}
 use Rattle.serial.proofs.Outcomes.{turn_by_step, ready_before_end}
 use Rattle.serial.proofs.Table.{none_is_some}
 use Rattle.engine.specs.declared.table.Table.{Table}

@@ -1,8 +1,8 @@
 -- The engine's invariant, from its ghost fields and back to them. Assumes nothing.
-use Rattle.std.proofs.Common.{◌≡◌, ℕ, ◌<◌, ◌⊎◌, List, [], Some, None, sym, ap, ◌∙◌, subst, ⊎_elim, arith}
+use Rattle.std.proofs.Common.{◌≡◌, ℕ, ◌<◌, ◌⊎◌, List, Some, None, sym, ap, ◌∙◌, subst, ⊎_elim, arith}
 use Rattle.serial.specs.declared.fault.Answer.{Answer}
 use Rattle.serial.specs.Machine.{Meaning, Stand}
-use Rattle.serial.specs.Rules.{Engine, State, Call, does, shadow}
+use Rattle.serial.specs.Rules.{Engine, Call, does, shadow}
 use Rattle.serial.specs.Sound.{Eight, AllowanceFits, ClosedBare, OpenLed, WithinAllowance, ForOpen, ScriptsFit, ShadowsFit, SoundEngine}
 use Rattle.serial.proofs.Sound.{does-sound, ok_from}
 use Rattle.serial.proofs.Table.{shadow-within, some_or_none}
@@ -25,7 +25,7 @@ Spread t =
       few : WithinAllowance (engine_of t);
       «open» : ForOpen (engine_of t);
       scripts : ScriptsFit (engine_of t);
-      shadows : ShadowsFit (engine_of t)
+      shadows : ShadowsFit (engine_of t);
     }
 
 pub spread : (t : Table) → SoundEngine (engine_of t) → Spread t

@@ -3,7 +3,7 @@ use Rattle.std.specs.Prelude.{◌≡◌, ℕ, min, List, map, length, take, drop
 use Rattle.pages.specs.Pages.{Chain}
 use Rattle.serial.specs.declared.fault.Answer.{Answer}
 use Rattle.serial.specs.Machine.{Meaning}
-use Rattle.serial.specs.Rules.{State, fresh, Call, set_allowance, begin, turn, commit, abort, after, answers, lists_put}
+use Rattle.serial.specs.Rules.{fresh, Call, set_allowance, begin, turn, commit, abort, after, answers, lists_put}
 use Rattle.serial.specs.Book.{Booked}
 use Rattle.engine.specs.declared.engine.Engine.{Engine as Held}
 use Rattle.engine.specs.declared.engine.booking.Call.{Call as Given}

@@ -1,12 +1,11 @@
 -- What the engine's calls promise. Assumes nothing.
-use Rattle.std.specs.Prelude.{◌≡◌, ℕ, true, List, [], ◌∷◌, ◌++◌, Ok, Err, Result}
+use Rattle.std.specs.Prelude.{◌≡◌, ℕ, List, Ok, Err, Result}
 use Rattle.pages.specs.Pages.{Chain}
 use Rattle.pages.specs.declared.WriteEntry.{WriteEntry}
 use Rattle.serial.specs.declared.fault.CallFault.{CallFault}
-use Rattle.serial.specs.declared.fault.Turned.{Turned}
 use Rattle.serial.specs.declared.fault.Answer.{Answer}
-use Rattle.serial.specs.declared.fault.Answer.TheVariants.{Allowed, Begun, Took, Committed, Aborted, Declined}
-use Rattle.serial.specs.Rules.{Engine, State}
+use Rattle.serial.specs.declared.fault.Answer.TheVariants.{Committed, Declined}
+use Rattle.serial.specs.Rules.{State}
 use Rattle.engine.specs.Table.{engine_of}
 use Rattle.engine.specs.declared.engine.Engine.{Engine as Held}
 

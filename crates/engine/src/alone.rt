@@ -4,7 +4,7 @@ ghost use Rattle.script.specs.Laws.{EndsAtEnd};
 ghost use Rattle.script.specs.Script.{decoded};
 ghost use Rattle.script.specs.View.{steps_of};
 ghost use Rattle.pages.specs.Pages.{Chain};
-ghost use Rattle.serial.specs.Alone.{put_all as after_Puts};
+ghost use Rattle.serial.specs.Alone.{put_all as after_puts};
 ghost use Rattle.serial.specs.Machine.{takes};
 ghost use Rattle.engine.specs.View.{stand_of, Room};
 ghost use Rattle.engine.specs.Alone.{Inside, Advanced, Ended, RanAlone};
@@ -81,7 +81,7 @@ fn put_entry<S: Store>(entry: WriteEntry, store: &mut S)
 // Puts an own list to the store, in list order. Its pages are all below the store's size, so no put is refused.
 pub(crate) fn put_all<S: Store>(own: &[WriteEntry], store: &mut S)
     requires { Inside (length (S.Reader.pages store.old)) own.now }
-    ensures pages { S.Reader.pages store.new ≡ after_Puts own.now (S.Reader.pages store.old) }
+    ensures pages { S.Reader.pages store.new ≡ after_puts own.now (S.Reader.pages store.old) }
     ensures chain { Chain S.Store.wrote store.old own.now store.new }
 {
     for entry in own {

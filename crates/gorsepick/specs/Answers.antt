@@ -2,7 +2,7 @@
 use Rattle.std.specs.Prelude.{◌≡◌, ℕ, List, length, take, Some, None, Ok, Err, vec_items, Option, Result}
 use Rattle.std.specs.Global.{Vec}
 use Rattle.pages.specs.Pages.{word_at, Put}
-use Rattle.pages.specs.Image.{image_fault, image_pages, image_cause, image_returned}
+use Rattle.pages.specs.Image.{image_pages, image_cause, image_returned}
 use Rattle.pages.specs.Load.{ImageLoaded, image_load_cause, image_load_returned}
 use Rattle.pages.specs.declared.StoreFault.{StoreFault}
 use Rattle.pages.specs.declared.fault.ImageFault.{ImageFault}

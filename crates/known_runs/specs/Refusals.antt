@@ -1,5 +1,5 @@
 -- Known runs of the engine in which calls are declined, each by the first check that fails. Assumes nothing.
-use Rattle.std.specs.Prelude.{ℕ, List, [], ◌∷◌, ◌++◌}
+use Rattle.std.specs.Prelude.{[], ◌∷◌, ◌++◌}
 use Rattle.arithmetic.specs.Words.{counters}
 use Rattle.serial.specs.declared.fault.Standing.TheVariants.{AtEnd, Halted, Ready}
 use Rattle.serial.specs.Rules.{set_allowance, begin, turn, commit, abort}

@@ -13,7 +13,7 @@ use Rattle.serial.specs.declared.fault.Standing.{Standing}
 use Rattle.serial.specs.Faults.{call_cause, call_returned}
 use Rattle.serial.specs.Machine.{Meaning, Steps, Stand, holds}
 use Rattle.serial.specs.Alone.{Reached, there, fault, past_end, whole_run, put_all}
-use Rattle.serial.specs.Rules.{Engine, State, fresh, script_of, shadow, standing, Done, Call, does}
+use Rattle.serial.specs.Rules.{Engine, State, fresh, script_of, shadow, standing, Call, does}
 
 -- what a call answers; a refusal by its number and its values
 pub data Told : Type 0 where

@@ -1,5 +1,5 @@
 -- The scripts of the known runs, as bytes. Assumes nothing.
-use Rattle.std.specs.Prelude.{ℕ, ◌*◌, ◌/◌, ◌%◌, ◌^◌, List, [], ◌∷◌, ◌++◌, length, replicate}
+use Rattle.std.specs.Prelude.{ℕ, ◌/◌, ◌%◌, ◌^◌, List, [], ◌∷◌, ◌++◌, length, replicate}
 
 -- register 0 takes page 0, register 1 takes 5, register 0 takes their combination, page 0 takes register 0
 abbrev pub A : List ℕ

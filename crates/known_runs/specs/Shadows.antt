@@ -2,7 +2,7 @@
 use Rattle.std.specs.Prelude.{ℕ, List, [], ◌∷◌, ◌++◌}
 use Rattle.arithmetic.specs.Words.{counters}
 use Rattle.serial.specs.declared.fault.Standing.TheVariants.{AtEnd, Halted, Ready}
-use Rattle.serial.specs.Rules.{begin, turn, commit, abort}
+use Rattle.serial.specs.Rules.{turn}
 use Rattle.known_runs.specs.Runs.{Event, pages_are, store_is, Run, engine_run}
 use Rattle.known_runs.specs.Scripts.{A, B, reads, reads_two, reads_three, follows, puts, puts_two, reads_puts}
 use Rattle.known_runs.specs.Events.{three, allows, begins, moves, waits, commits, aborts, declines, stands, lacks}

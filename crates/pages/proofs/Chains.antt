@@ -1,6 +1,6 @@
 -- Laws of chains of puts. Assumes nothing.
-use Rattle.std.proofs.Common.{◌≡◌, ℕ, zero, suc, ◌+◌, ◌<◌, ◌≤◌, List, [], ◌∷◌, ◌++◌, length, get_or, take, set, sym, refl, ap, ◌∙◌, subst, zero-add, arith}
-use Rattle.std.proofs.lemmas.List.{take_more, take_more_set, take-set, length-take-le}
+use Rattle.std.proofs.Common.{◌≡◌, ℕ, suc, ◌+◌, ◌<◌, List, [], ◌∷◌, ◌++◌, length, get_or, take, set, sym, refl, ap, ◌∙◌, subst, arith}
+use Rattle.std.proofs.lemmas.List.{take_more, take_more_set, length-take-le}
 use Rattle.pages.specs.declared.WriteEntry.{WriteEntry}
 use Rattle.pages.specs.Pages.{Chain, entry, numbered}
 

@@ -1,5 +1,5 @@
 -- Laws of page images. Assumes nothing.
-use Rattle.std.proofs.Common.{◌≡◌, ℕ, zero, suc, ◌+◌, ◌-◌, ◌*◌, ◌<◌, ◌≤◌, Bool, true, false, cond, eqb, leb, List, [], length, get_or, replicate, Some, None, Option, sym, refl, ap, ◌∙◌, ⊎_elim, add-zero, add-suc, add-one, arith}
+use Rattle.std.proofs.Common.{◌≡◌, ℕ, zero, suc, ◌+◌, ◌-◌, ◌*◌, ◌<◌, true, false, cond, eqb, leb, List, [], length, get_or, replicate, Some, None, sym, ap, ◌∙◌, ⊎_elim, add-zero, add-suc, add-one, arith}
 use lib.ListN.{length-replicate}
 use Rattle.std.proofs.lemmas.List.{get_or-replicate}
 use Rattle.std.proofs.lemmas.Bool.{and_parts, eqb-true, cond-false, cond-true, cases_Bool}

@@ -1,8 +1,8 @@
 -- Laws of the log store's words. Assumes nothing.
-use Rattle.std.proofs.Common.{◌≡◌, ℕ, zero, suc, ◌+◌, ◌-◌, ◌*◌, ◌<◌, ◌≤◌, Bool, true, false, cond, ◌&&◌, eqb, ltb, leb, ◌≢◌, ◌⊎◌, List, [], ◌∷◌, length, get_or, take, drop, set, sym, refl, ap, ◌∙◌, inl, inr, ⊎_elim, zero-add, add-one, arith, length-drop, length-set, length-take, get_or-drop, get_or-set_other, get_or-take, get_or-set_same, drop-set-lt}
+use Rattle.std.proofs.Common.{◌≡◌, ℕ, suc, ◌+◌, ◌*◌, ◌<◌, ◌≤◌, true, false, ltb, ◌≢◌, ◌⊎◌, List, [], length, get_or, take, drop, set, sym, refl, ap, ◌∙◌, inl, inr, ⊎_elim, zero-add, add-one, arith, length-drop, length-set, length-take, get_or-drop, get_or-set_other, get_or-take, get_or-set_same, drop-set-lt}
 use lib.Seq.{take-set-le, drop-set-add}
-use Rattle.std.proofs.lemmas.Bool.{and_parts, and_from, ltb-true, lt-ltb, le-ltb, eq-eqb, ne_eqb, eqb-true, leb-true, le-leb, cases_eq, cond-true, cond_both, cond-false, cases_Bool, ltb-false}
-use Rattle.pages.specs.Entries.{carried, latest, all_below, length-carried}
+use Rattle.std.proofs.lemmas.Bool.{and_parts, and_from, ltb-true, lt-ltb, le-ltb, eq-eqb, eqb-true, leb-true, le-leb, cases_eq, cond-true, cond_both, cond-false, cases_Bool, ltb-false}
+use Rattle.pages.specs.Entries.{carried, latest, length-carried}
 use Rattle.pages.specs.Log.{size_word, capacity, used, entry_page, entry_word, sound, base, log_pages, emptied, appended, with_room, log_put}
 use Rattle.pages.proofs.Entries.{all_below_at, all_below_from, carried_other, carried_part, carried_same, get_or-carried}
 

@@ -1,5 +1,5 @@
 -- Loading: all pages of a reader copied into a store of the same size. Assumes nothing.
-use Rattle.std.specs.Prelude.{◌≡◌, ℕ, List, [], ◌∷◌, length, Some, None, Ok, Err, Option, Result, ◌≢◌}
+use Rattle.std.specs.Prelude.{◌≡◌, ℕ, List, [], ◌∷◌, length, Some, None, Ok, Err, Result, ◌≢◌}
 use Rattle.pages.specs.Pages.{Chain, numbered}
 use Rattle.pages.specs.Image.{image_fault, image_pages, image_cause, image_returned}
 use Rattle.pages.specs.declared.fault.LoadFault.{LoadFault}

@@ -3,19 +3,18 @@ use Rattle.std.proofs.Common.{◌≡◌, ℕ, zero, suc, ◌+◌, ◌-◌, ◌*�
 use Rattle.std.specs.List.{slice_get}
 use Rattle.std.proofs.iter.runs.Lists.{nth_read, slice_get_within, nth_left, nth_seam}
 use Rattle.std.proofs.lemmas.List.{length_push}
-use Rattle.std.proofs.lemmas.Bool.{and_parts, cond-true, cond-false, cond_both, cases_eq, cases_Bool, eqb-true, leb-true, true≢false, lt-ltb}
+use Rattle.std.proofs.lemmas.Bool.{and_parts, cond-true, cond-false, cond_both, cases_eq, cases_Bool, eqb-true, leb-true, lt-ltb}
 use Rattle.basics.specs.Trail.{pushed}
 use Rattle.arithmetic.specs.Words.{from_number}
 use Rattle.arithmetic.specs.declared.Operation.{Operation}
 use Rattle.script.specs.declared.Register.{Register}
 use Rattle.script.specs.declared.Register.TheVariants.{R0}
-use Rattle.script.specs.declared.Action.{Action}
-use Rattle.script.specs.declared.Action.TheVariants.{Read, ReadIndexed, Write, WriteIndexed, Set, Combine, Skip}
+use Rattle.script.specs.declared.Action.TheVariants.{Set, Skip}
 use Rattle.script.specs.declared.Step.{Step}
 use Rattle.script.specs.declared.ScriptFault.{ScriptFault}
 use Rattle.script.specs.declared.ScriptFault.TheVariants.{Unfit, Undefined}
-use Rattle.script.specs.Script.{register, fit, steps_told, code_at, operand_at, step_with, combining, defined, step_of, step_at, then_step, steps_to, decoded}
-use Rattle.script.specs.Laws.{leaves_out, EndsAtEnd, Decodes}
+use Rattle.script.specs.Script.{register, fit, steps_told, code_at, operand_at, step_with, combining, defined, step_at, then_step, steps_to, decoded}
+use Rattle.script.specs.Laws.{leaves_out, Decodes}
 
 -- fit bytes, fact by fact
 pub record Fit (bs : List ℕ) : Type 0 where

@@ -1,13 +1,11 @@
 -- What decoding comes to, told step by step. Assumes nothing.
 use Rattle.std.specs.Prelude.{◌≡◌, ℕ, ◌+◌, ◌<◌, ◌≤◌, true, false, List, length, is_some, Some, None, Ok, Err, Result}
 use Rattle.std.specs.List.{slice_get}
-use Rattle.script.specs.declared.Register.{Register}
-use Rattle.script.specs.declared.Action.{Action}
 use Rattle.script.specs.declared.Action.TheVariants.{Read, ReadIndexed, Write, WriteIndexed, Set, Combine, Skip}
 use Rattle.script.specs.declared.Step.{Step}
 use Rattle.script.specs.declared.ScriptFault.{ScriptFault}
 use Rattle.script.specs.declared.ScriptFault.TheVariants.{Unfit, Undefined}
-use Rattle.script.specs.Script.{fit, steps_told, step_at, decoded}
+use Rattle.script.specs.Script.{fit, steps_told, step_at}
 
 -- how many steps a step may leave out
 abbrev pub leaves_out : Step → ℕ

@@ -2,8 +2,7 @@
 --
 -- Byte 0 is n, the number of steps; then come n code bytes, and n operands of four bytes, most significant first. In a
 -- code byte the high four bits are the action, bits 3 and 2 register a, bits 1 and 0 register b.
-use Rattle.std.specs.Prelude.{◌≡◌, ℕ, zero, suc, ◌+◌, ◌*◌, ◌/◌, ◌%◌, ◌<◌, Bool, true, false, cond, ◌&&◌, List, [], ◌∷◌, ◌++◌, length, Some, None, Ok, Err, Option, Result, ◌==◌, nat_le, slice_index}
-use Rattle.std.specs.List.{slice_get}
+use Rattle.std.specs.Prelude.{ℕ, zero, suc, ◌+◌, ◌*◌, ◌/◌, ◌%◌, Bool, cond, ◌&&◌, List, [], ◌∷◌, ◌++◌, length, Some, None, Ok, Err, Option, Result, ◌==◌, nat_le, slice_index}
 use Rattle.basics.specs.Bytes.{big_endian}
 use Rattle.arithmetic.specs.Words.{from_number}
 use Rattle.arithmetic.specs.declared.Operation.{Operation}

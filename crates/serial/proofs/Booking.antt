@@ -1,29 +1,24 @@
 -- Every list of calls books serially. Assumes nothing.
-use Rattle.std.proofs.Common.{◌≡◌, ℕ, zero, suc, ◌+◌, ◌<◌, ◌≤◌, Bool, true, false, cond, not, ◌&&◌, ◌||◌, eqb, ltb, leb, ◌≢◌, ◌⊎◌, List, [], ◌∷◌, ◌++◌, length, get_or, set, is_some, Some, None, Ok, Err, Option, Result, unwrap_or, sym, refl, ap, ◌∙◌, subst, inl, inr, ⊎_elim, arith}
+use Rattle.std.proofs.Common.{◌≡◌, ℕ, suc, ◌<◌, ◌≤◌, true, false, cond, ◌&&◌, eqb, leb, ◌≢◌, List, [], ◌∷◌, ◌++◌, length, set, Some, None, Ok, Err, Option, Result, unwrap_or, sym, refl, ap, ◌∙◌, subst, ⊎_elim, arith}
 use Rattle.std.specs.List.{slice_get}
 use Rattle.std.proofs.lemmas.List.{append-nil, append_assoc}
-use Rattle.std.proofs.lemmas.Bool.{cases_Bool, cases_eq, cases_lt, cond-true, cond-false, cond_both, or_cases, leb-true, le-leb, leb-false, eqb-true, eqb-false, ne_eqb, true≢false, both_ways}
-use Rattle.pages.specs.declared.WriteEntry.{WriteEntry}
+use Rattle.std.proofs.lemmas.Bool.{cases_Bool, cases_lt, cond-true, cond-false, cond_both, or_cases, leb-true, le-leb, ne_eqb, both_ways}
 use Rattle.script.specs.Script.{decoded}
 use Rattle.script.specs.declared.ScriptFault.{ScriptFault}
-use Rattle.script.specs.declared.Register.TheVariants.{R0}
-use Rattle.serial.specs.declared.fault.CallFault.{CallFault}
-use Rattle.serial.specs.declared.fault.Turned.{Turned}
-use Rattle.serial.specs.declared.fault.Turned.TheVariants.{Moved, Ended, Waiting}
+use Rattle.serial.specs.declared.fault.Turned.TheVariants.{Waiting}
 use Rattle.serial.specs.declared.fault.Standing.{Standing}
 use Rattle.serial.specs.declared.fault.Standing.TheVariants.{AtEnd, Halted, Ready}
 use Rattle.serial.specs.declared.fault.Answer.{Answer}
 use Rattle.serial.specs.declared.fault.Answer.TheVariants.{Allowed, Begun, Took, Committed, Aborted, Declined}
-use Rattle.serial.specs.Machine.{Meaning, Steps, Stand, start, holds, Taken, moved, off_pages, store_read, has_read_any}
-use Rattle.serial.specs.Alone.{Reached, there, fault, past_end, next, alone, stand_at, whole_run, on_list, before_read_of, put_all}
-use Rattle.serial.specs.Laws.{Leads, here, more}
-use Rattle.serial.specs.Rules.{Engine, State, Done, fresh, script_of, is_open, row, shadow, place_of, lead_writes, own_of, count, waits, standing, decline, in_range, first_open, allow_closed, allows, begin_with, begins, turn_step, turn_standing, turn_shadow, turn_open, turns, committed, first_off, commit_puts, commit_lead, commit_open, commits, abort_open, aborts, Call, set_allowance, begin, turn, commit, abort, does, after, answers}
-use Rattle.serial.specs.Book.{Ledger, empty_book, with_script, enters, books_run, books_commit, books_accepted, books, book_after, commits_among, Tidy, Rescued, Booked, EveryListBooked}
+use Rattle.serial.specs.Machine.{Meaning, Steps, Stand, start, Taken, moved, off_pages, store_read, has_read_any}
+use Rattle.serial.specs.Alone.{there, next, stand_at, whole_run, on_list, before_read_of, put_all}
+use Rattle.serial.specs.Laws.{Leads}
+use Rattle.serial.specs.Rules.{State, Done, fresh, script_of, is_open, shadow, place_of, lead_writes, own_of, waits, standing, in_range, first_open, allow_closed, begin_with, turn_step, turn_standing, turn_shadow, turn_open, committed, first_off, commit_puts, commit_lead, commit_open, abort_open, Call, set_allowance, begin, turn, commit, abort, does, after, answers}
+use Rattle.serial.specs.Book.{Ledger, enters, books_run, books_commit, books, book_after, commits_among, Tidy, Rescued, EveryListBooked}
 use Rattle.serial.proofs.Runs.{leads-ends, reached_stand, reached_same, reached_later, past_read, first_of, First}
-use Rattle.serial.proofs.Table.{none_is_some, some_is, none_is, some_or_none, Sized, shadow-within}
-use Rattle.serial.proofs.Kept.{no_exempt, RowInv, Inv}
-use Rattle.serial.proofs.Turns.{open_within, moves-scripts}
-use Rattle.serial.proofs.Commits.{new_lead, NewLead}
+use Rattle.serial.proofs.Table.{none_is_some, some_is, none_is, some_or_none, shadow-within}
+use Rattle.serial.proofs.Turns.{moves-scripts}
+use Rattle.serial.proofs.Commits.{new_lead}
 use Rattle.serial.proofs.Calls.{Good, fresh_good, does_good, after_good}
 
 -- the book agrees with the state, and has noted these answers

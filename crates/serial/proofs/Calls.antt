@@ -1,21 +1,19 @@
 -- Every call keeps the invariant. Assumes nothing.
-use Rattle.std.proofs.Common.{◌≡◌, ℕ, zero, suc, ◌+◌, ◌<◌, ◌≤◌, Bool, true, false, cond, not, ◌&&◌, ◌||◌, eqb, ltb, leb, ◌≢◌, ◌⊎◌, List, [], ◌∷◌, length, get_or, set, replicate, is_some, Some, None, Ok, Err, Option, Result, unwrap_or, sym, refl, ap, ◌∙◌, subst, inl, inr, ⊎_elim, arith, length-set, get_or-set_other, get_or-set_same}
-use Rattle.std.specs.List.{slice_get}
-use Rattle.std.proofs.lemmas.Bool.{cases_Bool, cases_eq, cond-true, cond-false, cond_both, and_parts, leb-true, leb-false, eqb-true, eqb-false, true≢false, both_ways}
+use Rattle.std.proofs.Common.{◌≡◌, ℕ, zero, suc, ◌<◌, ◌≤◌, Bool, true, false, cond, ◌&&◌, eqb, leb, ◌≢◌, List, [], ◌∷◌, length, get_or, set, replicate, is_some, Some, None, Ok, Err, Option, Result, unwrap_or, sym, refl, ap, ◌∙◌, subst, ⊎_elim, arith, length-set, get_or-set_other, get_or-set_same}
+use Rattle.std.proofs.lemmas.Bool.{cases_Bool, cases_eq, cond-true, cond-false, cond_both, and_parts, leb-true, eqb-true, eqb-false, true≢false}
 use Rattle.script.specs.Laws.{EndsAtEnd, Decodes}
 use Rattle.script.specs.Script.{decoded}
 use Rattle.script.specs.declared.ScriptFault.{ScriptFault}
 use Rattle.script.proofs.Decoded.{decodes}
-use Rattle.serial.specs.declared.ReadEntry.{ReadEntry}
 use Rattle.serial.specs.declared.fault.Standing.{Standing}
 use Rattle.serial.specs.declared.fault.Standing.TheVariants.{AtEnd, Halted, Ready}
 use Rattle.serial.specs.Machine.{Meaning, Steps, Stand, start, Taken, moved, off_pages, has_read_any}
-use Rattle.serial.specs.Alone.{next, put_all}
-use Rattle.serial.specs.Laws.{Leads, here, more}
-use Rattle.serial.specs.Rules.{Row, Engine, State, Done, no_shadows, fresh, fresh_engine, script_of, is_open, row, shadow, with_shadow, own_of, lead_writes, count, waits, standing, with_engine, decline, in_range, first_open, allow_closed, allows, begun, begin_with, begins, shadow_moves, lead_moves, turn_step, turn_standing, turn_shadow, turn_open, turns, closed, committed, first_off, commit_puts, commit_lead, commit_open, commits, abort_open, aborts, Call, set_allowance, begin, turn, commit, abort, does, after}
-use Rattle.serial.proofs.Table.{none_is_some, some_is, none_is, some_or_none, Sized, shadow-within, row_put, row_put_other, shadow_put, shadow_put_place, shadow_put_row, sized_put, count_add}
-use Rattle.serial.proofs.Kept.{no_exempt, RowInv, Inv, row_like}
-use Rattle.serial.proofs.Turns.{open_within, lead_moves_inv, shadow_moves_inv}
+use Rattle.serial.specs.Alone.{next}
+use Rattle.serial.specs.Laws.{Leads, here}
+use Rattle.serial.specs.Rules.{Row, Engine, State, Done, no_shadows, fresh, fresh_engine, script_of, is_open, row, shadow, with_shadow, own_of, lead_writes, count, waits, standing, in_range, first_open, allow_closed, allows, begun, begin_with, begins, lead_moves, turn_step, turn_standing, turn_shadow, turn_open, turns, first_off, commit_puts, commit_open, commits, abort_open, aborts, Call, set_allowance, begin, turn, commit, abort, does, after}
+use Rattle.serial.proofs.Table.{none_is_some, none_is, Sized, row_put, row_put_other, shadow_put, shadow_put_place, shadow_put_row, sized_put, count_add}
+use Rattle.serial.proofs.Kept.{no_exempt, RowInv, Inv}
+use Rattle.serial.proofs.Turns.{lead_moves_inv, shadow_moves_inv}
 use Rattle.serial.proofs.Commits.{committed_inv, abort_is}
 
 nothing_at : {X : Type 0} (n u : ℕ) → get_or {A = Option X} (replicate n None) u None ≡ None

@@ -1,17 +1,15 @@
 -- A commit and an abort keep the invariant. Assumes nothing.
-use Rattle.std.proofs.Common.{◌≡◌, ℕ, zero, suc, ◌+◌, ◌<◌, ◌≤◌, Bool, true, false, cond, not, ◌&&◌, ◌||◌, eqb, ltb, leb, ◌≢◌, ◌⊎◌, List, [], ◌∷◌, map, length, get_or, set, replicate, is_some, Some, None, Option, unwrap_or, sym, refl, ap, ◌∙◌, subst, inl, inr, ⊎_elim, add-zero, add-suc, zero-add, arith, length-set, get_or-set_other, get_or-set_same}
+use Rattle.std.proofs.Common.{◌≡◌, ℕ, zero, suc, ◌+◌, ◌<◌, ◌≤◌, true, false, ◌≢◌, List, [], ◌∷◌, map, length, get_or, set, replicate, is_some, Some, None, Option, unwrap_or, sym, refl, ap, ◌∙◌, subst, ⊎_elim, add-zero, zero-add, arith, length-set, get_or-set_other, get_or-set_same}
 use lib.ListN.{length-map}
 use Rattle.std.proofs.lemmas.List.{set_past, get_or_past}
 use Rattle.std.proofs.lemmas.Bool.{cases_Bool, cases_eq, cases_lt, cond-true, cond-false, cond_both, true≢false, both_ways}
 use Rattle.pages.specs.declared.WriteEntry.{WriteEntry}
-use Rattle.script.specs.Laws.{EndsAtEnd}
-use Rattle.serial.specs.declared.ReadEntry.{ReadEntry}
 use Rattle.serial.specs.Machine.{Meaning, Steps, Stand, start, has_written, has_read_any}
 use Rattle.serial.specs.Alone.{put_all}
-use Rattle.serial.specs.Laws.{Leads, here, more}
-use Rattle.serial.specs.Rules.{Row, Engine, no_shadows, script_of, is_open, row, shadow, own_of, lead_writes, furthest_of, any_shadow, count, cleared, without, closed, kept, remaining, spoils, renewed, renew, committed}
-use Rattle.serial.proofs.Runs.{leads-rises, reached_later, read_lasts, unread_before, leads-frame, length-put_all, put_all_other}
-use Rattle.serial.proofs.Table.{none_is_some, some_is, none_is, some_or_none, Sized, shadow-within, count_add, count_clear, count-remaining, count_dropped, remaining_at, kept_was, kept-unread, kept_read, furthest_of_among, furthest_of_most}
+use Rattle.serial.specs.Laws.{Leads, here}
+use Rattle.serial.specs.Rules.{Row, Engine, no_shadows, script_of, is_open, row, shadow, own_of, lead_writes, furthest_of, any_shadow, count, cleared, closed, kept, remaining, spoils, renewed, renew, committed}
+use Rattle.serial.proofs.Runs.{reached_later, read_lasts, leads-frame, length-put_all, put_all_other}
+use Rattle.serial.proofs.Table.{none_is_some, some_is, some_or_none, Sized, shadow-within, count_add, count_clear, count-remaining, count_dropped, remaining_at, kept_was, kept-unread, furthest_of_among, furthest_of_most}
 use Rattle.serial.proofs.Conflicts.{read_any_nil, read_any_grows, read_any_shrinks, own_grows}
 use Rattle.serial.proofs.Kept.{no_exempt, RowInv, Inv}
 

@@ -1,12 +1,12 @@
 -- Reads against writes: what lists of them have in common, as shadows move. Assumes nothing.
-use Rattle.std.proofs.Common.{◌≡◌, ℕ, ◌<◌, ◌≤◌, Bool, true, false, cond, ◌||◌, eqb, ◌⊎◌, List, [], ◌∷◌, ◌++◌, Some, None, Option, sym, refl, ap, ◌∙◌, subst, inl, inr, ⊎_elim, arith}
+use Rattle.std.proofs.Common.{◌≡◌, ℕ, Bool, true, false, ◌||◌, eqb, List, [], ◌∷◌, ◌++◌, Some, None, Option, sym, refl, ap, ◌∙◌, ⊎_elim}
 use Rattle.std.specs.List.{slice_get}
-use Rattle.std.proofs.lemmas.Bool.{cases_Bool, cases_eq, eq-eqb, ne_eqb, eqb-true, both_ways, or_left, or_right, or_cases, or_parts, or_from, true≢false}
+use Rattle.std.proofs.lemmas.Bool.{cases_Bool, cases_eq, eq-eqb, ne_eqb, both_ways, or_left, or_right, or_cases, true≢false}
 use Rattle.pages.specs.declared.WriteEntry.{WriteEntry}
 use Rattle.serial.specs.declared.ReadEntry.{ReadEntry}
-use Rattle.serial.specs.Machine.{Meaning, Steps, Stand, store_read, write_of, has_read, has_written, has_read_any}
+use Rattle.serial.specs.Machine.{Meaning, Steps, Stand, write_of, has_read, has_written, has_read_any}
 use Rattle.serial.specs.Alone.{on_list}
-use Rattle.serial.specs.Laws.{Next, Leads, here, more}
+use Rattle.serial.specs.Laws.{Leads, here, more}
 use Rattle.serial.proofs.Steps.{noted, named}
 use Rattle.serial.proofs.Runs.{stepped, reads_grow}
 

@@ -3,7 +3,6 @@ use Rattle.std.proofs.Common.{◌≡◌, ℕ, List, [], ◌∷◌, ◌++◌, sym
 use Rattle.std.proofs.lemmas.List.{append-nil, append_assoc}
 use Rattle.pages.specs.Pages.{Chain}
 use Rattle.pages.specs.declared.WriteEntry.{WriteEntry}
-use Rattle.serial.specs.declared.fault.Answer.{Answer}
 use Rattle.serial.specs.Machine.{Meaning}
 use Rattle.serial.specs.Rules.{State, Call, does, after, answers, list_put, lists_put}
 

@@ -1,13 +1,12 @@
 -- The invariant that every call keeps, and that accounting keeps it. Assumes nothing.
-use Rattle.std.proofs.Common.{◌≡◌, ℕ, zero, suc, ◌+◌, ◌<◌, ◌≤◌, Bool, true, false, cond, not, ◌&&◌, ◌||◌, eqb, ltb, leb, ◌≢◌, ◌⊎◌, List, [], ◌∷◌, length, get_or, set, is_some, Some, None, Option, unwrap_or, sym, refl, ap, ◌∙◌, subst, inl, inr, ⊎_elim, arith}
-use Rattle.std.proofs.lemmas.Bool.{cases_Bool, cases_eq, cond-true, cond-false, and_parts, or_cases, or_parts, ltb-true, ltb-false, lt-ltb, not-true, not_from_true, true≢false, both_ways}
+use Rattle.std.proofs.Common.{◌≡◌, ℕ, ◌<◌, ◌≤◌, Bool, true, false, ltb, ◌≢◌, List, get_or, set, is_some, Some, None, Option, unwrap_or, sym, refl, ap, ◌∙◌, subst, ⊎_elim, arith}
+use Rattle.std.proofs.lemmas.Bool.{cases_Bool, cases_eq, cond-true, cond-false, or_cases, or_parts, ltb-true, ltb-false, not-true, true≢false, both_ways}
 use Rattle.script.specs.Laws.{EndsAtEnd}
 use Rattle.serial.specs.declared.ReadEntry.{ReadEntry}
 use Rattle.serial.specs.Machine.{Meaning, Steps, Stand, start, has_read_any}
-use Rattle.serial.specs.Laws.{Leads, here, more}
-use Rattle.serial.specs.Rules.{Row, Engine, script_of, is_open, row, shadow, with_shadow, own_of, lead_writes, clean, furthest_of, count, has_room, account}
-use Rattle.serial.proofs.Table.{none_is_some, some_is, none_is, some_or_none, there-within, Sized, shadow-within, row_put, row_put_other, shadow_put, shadow_put_place, shadow_put_row, sized_put, count_set, count_add, count_free, furthest_of_among}
-use Rattle.serial.proofs.Conflicts.{read_any_nil}
+use Rattle.serial.specs.Laws.{Leads, here}
+use Rattle.serial.specs.Rules.{Engine, script_of, is_open, row, shadow, with_shadow, own_of, lead_writes, clean, furthest_of, count, has_room, account}
+use Rattle.serial.proofs.Table.{none_is_some, some_is, none_is, Sized, row_put, row_put_other, shadow_put, shadow_put_place, shadow_put_row, sized_put, count_set, count_add, count_free, furthest_of_among}
 
 -- reads for which nothing is promised of the shadow for a slot: none, but halfway through a write's accounting
 abbrev pub Exempt : Type 0

@@ -1,24 +1,16 @@
 -- What each call comes to, by the check that decides it. Assumes nothing.
-use Rattle.std.proofs.Common.{◌≡◌, ℕ, zero, suc, ◌+◌, ◌<◌, ◌≤◌, Bool, true, false, cond, ◌&&◌, ◌||◌, eqb, ltb, leb, ◌≢◌, ◌⊎◌, List, [], ◌∷◌, length, get_or, is_some, Some, None, Ok, Err, Option, Result, unwrap_or, sym, refl, ap, ◌∙◌, subst, inl, inr, ⊎_elim, arith}
-use Rattle.std.specs.List.{slice_get}
-use Rattle.std.proofs.lemmas.Bool.{cases_Bool, cases_eq, cond-true, cond-false, and_from, and_left, and_right, or_parts, le-leb, lt-leb, leb-true, leb-false, eq-eqb, ne_eqb, true≢false}
-use Rattle.std.proofs.lemmas.Option.{slice_get-get_or}
-use Rattle.pages.specs.Pages.{fault_at}
+use Rattle.std.proofs.Common.{◌≡◌, ℕ, ◌<◌, ◌≤◌, Bool, true, false, cond, ◌&&◌, eqb, leb, List, length, is_some, Some, Option, Result, unwrap_or, sym, refl, ap, ◌∙◌, ⊎_elim, arith}
+use Rattle.std.proofs.lemmas.Bool.{cases_eq, cond-true, cond-false, and_from, and_left, and_right, or_parts, le-leb, lt-leb, leb-false, eq-eqb, ne_eqb}
 use Rattle.script.specs.Script.{decoded}
-use Rattle.script.specs.declared.Step.{Step}
 use Rattle.script.specs.declared.ScriptFault.{ScriptFault}
-use Rattle.script.specs.declared.Register.TheVariants.{R0}
-use Rattle.serial.specs.declared.fault.CallFault.TheVariants.{NoSlot, BadAllowance, SlotsOpen, AlreadyOpen, Undecoded, NotOpen, NoShadow, OffPages, NotEnded, Unwritable}
-use Rattle.serial.specs.declared.fault.Turned.TheVariants.{Moved, Ended, Waiting}
+use Rattle.serial.specs.declared.fault.CallFault.TheVariants.{NoSlot, BadAllowance, AlreadyOpen, NotEnded}
 use Rattle.serial.specs.declared.fault.Standing.{Standing}
 use Rattle.serial.specs.declared.fault.Standing.TheVariants.{AtEnd, Halted, Ready}
-use Rattle.serial.specs.declared.fault.Answer.TheVariants.{Allowed, Begun, Took, Committed, Aborted, Declined}
-use Rattle.serial.specs.Faults.{step_fault}
-use Rattle.serial.specs.Machine.{Meaning, Steps, Stand, start, holds, Taken, moved, off_pages}
-use Rattle.serial.specs.Alone.{next, put_all}
-use Rattle.serial.specs.Rules.{Engine, State, Done, script_of, is_open, shadow, place_of, waits, standing, with_engine, decline, in_range, first_open, allow_closed, allows, begun, begin_with, begins, shadow_moves, turn_step, turn_standing, turn_shadow, turn_open, turns, closed, committed, first_off, commit_puts, commit_lead, commit_open, commits, abort_open, aborts}
+use Rattle.serial.specs.Machine.{Meaning, Steps, Stand, start, Taken}
+use Rattle.serial.specs.Alone.{next}
+use Rattle.serial.specs.Rules.{Engine, State, Done, script_of, is_open, shadow, place_of, waits, standing, decline, in_range, first_open, allow_closed, allows, begin_with, begins, turn_step, turn_standing, turn_shadow, turn_open, turns, first_off, commit_puts, commit_lead, commit_open, commits, abort_open, aborts}
 use Rattle.serial.specs.Sound.{SoundEngine}
-use Rattle.serial.proofs.Table.{none_is_some, some_is}
+use Rattle.serial.proofs.Table.{some_is}
 use Rattle.serial.proofs.Sound.{ok_from}
 
 module _ (s : State) where

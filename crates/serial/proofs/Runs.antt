@@ -1,17 +1,17 @@
 -- Laws of a run alone. Assumes nothing.
-use Rattle.std.proofs.Common.{◌≡◌, ℕ, zero, suc, ◌+◌, ◌-◌, ◌<◌, ◌≤◌, Bool, true, false, cond, ◌||◌, eqb, ltb, ◌⊎◌, List, [], ◌∷◌, ◌++◌, length, get_or, set, Some, None, Option, sym, refl, ap, ◌∙◌, subst, inl, inr, ⊎_elim, arith, length-set, get_or-set_other}
+use Rattle.std.proofs.Common.{◌≡◌, ℕ, zero, suc, ◌+◌, ◌<◌, ◌≤◌, Bool, true, false, ◌||◌, eqb, ◌⊎◌, List, [], ◌∷◌, ◌++◌, length, get_or, set, Some, None, Option, sym, refl, ap, ◌∙◌, subst, inl, inr, ⊎_elim, arith, length-set, get_or-set_other}
 use Rattle.std.specs.List.{slice_get}
 use Rattle.std.proofs.iter.runs.Lists.{slice_get_within}
 use Rattle.std.proofs.lemmas.List.{append-nil, append_assoc}
-use Rattle.std.proofs.lemmas.Bool.{cases_Bool, cases_eq, cond-true, cond-false, eq-eqb, eqb-true, ne_eqb, both_ways, or_parts, or_left, or_right, or_from, true≢false}
+use Rattle.std.proofs.lemmas.Bool.{cases_Bool, cond-true, cond-false, eq-eqb, eqb-true, ne_eqb, both_ways, or_parts, or_left, or_right, true≢false}
 use Rattle.pages.specs.declared.WriteEntry.{WriteEntry}
 use Rattle.script.specs.declared.Step.{Step}
 use Rattle.script.specs.Laws.{leaves_out, EndsAtEnd}
 use Rattle.serial.specs.declared.ReadEntry.{ReadEntry}
-use Rattle.serial.specs.Machine.{Meaning, Steps, Stand, start, effect, Taken, moved, off_pages, takes, store_read, write_of, has_read, has_written, has_read_any}
+use Rattle.serial.specs.Machine.{Meaning, Steps, Stand, start, effect, Taken, moved, off_pages, takes, store_read, write_of, has_written, has_read_any}
 use Rattle.serial.specs.Laws.{Next, Leads, here, more, StepsRise, RunsDetermined, ReadsGrow, UnreadReached, StandFound}
-use Rattle.serial.specs.Alone.{Reached, there, fault, past_end, try_step, next, go_on, first_stand, alone, is_at, stand_at, on_list, before_read_of, put_all}
-use Rattle.serial.proofs.Steps.{noted, named, Moves, step-moves}
+use Rattle.serial.specs.Alone.{Reached, there, fault, try_step, next, go_on, first_stand, is_at, stand_at, on_list, before_read_of, put_all}
+use Rattle.serial.proofs.Steps.{noted, Moves, step-moves}
 
 -- lists of reads, against a list of writes
 pub read_any_append : (rs qs : List ReadEntry) (es : List WriteEntry) → has_read_any (rs ++ qs) es ≡ (has_read_any rs es || has_read_any qs es)

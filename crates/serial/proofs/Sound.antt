@@ -1,5 +1,5 @@
 -- Every call keeps what holds in every engine, over any pages. Assumes nothing.
-use Rattle.std.proofs.Common.{◌≡◌, ℕ, zero, suc, ◌+◌, ◌<◌, ◌≤◌, Bool, true, false, cond, not, ◌&&◌, ◌||◌, eqb, ltb, leb, ◌≢◌, ◌⊎◌, List, [], ◌∷◌, ◌++◌, length, get_or, set, replicate, is_some, Some, None, Ok, Err, Option, Result, unwrap_or, sym, refl, ap, ◌∙◌, subst, inl, inr, ⊎_elim, arith, length-set, get_or-set_other, get_or-set_same}
+use Rattle.std.proofs.Common.{◌≡◌, ℕ, zero, suc, ◌+◌, ◌<◌, ◌≤◌, true, false, not, ◌&&◌, eqb, ltb, leb, ◌≢◌, ◌⊎◌, List, [], ◌∷◌, length, get_or, set, replicate, is_some, Some, None, Ok, Err, Option, Result, unwrap_or, sym, refl, ap, ◌∙◌, subst, inl, inr, ⊎_elim, arith, length-set, get_or-set_other, get_or-set_same}
 use Rattle.std.specs.List.{slice_get}
 use Rattle.std.proofs.lemmas.List.{length-append}
 use Rattle.std.proofs.lemmas.Bool.{cases_Bool, cases_eq, cond-true, cond-false, cond_both, and_parts, and_from, or_cases, leb-true, le-leb, ltb-true, eqb-true, eqb-false, not-true, true≢false}
@@ -11,20 +11,19 @@ use Rattle.script.specs.Script.{decoded}
 use Rattle.script.specs.declared.Register.{Register}
 use Rattle.script.specs.declared.ScriptFault.{ScriptFault}
 use Rattle.script.proofs.Decoded.{decodes, fit_facts}
-use Rattle.serial.specs.declared.ReadEntry.{ReadEntry}
 use Rattle.serial.specs.declared.fault.Standing.{Standing}
 use Rattle.serial.specs.declared.fault.Standing.TheVariants.{AtEnd, Halted, Ready}
 use Rattle.serial.specs.Machine.{Meaning, Steps, Stand, start, has_read_any, written, write, Effect, reading, writing, setting, leaving, effect, with_register, recorded, with_write, Taken, moved, off_pages, take_read, take_effect, store_read, write_of}
 use Rattle.serial.specs.Alone.{next}
 use Rattle.serial.specs.Laws.{Next}
-use Rattle.serial.specs.Rules.{Row, Engine, State, Done, slots, fresh_engine, script_of, is_open, row, shadow, with_shadow, clean, furthest_of, any_shadow, count, has_room, account, read_conflict, account_read, account_reads, write_conflict, account_write, account_writes, before_step, after_step, lead_moves, shadow_moves, standing, in_range, first_open, allow_closed, allows, begun, begin_with, begins, turn_step, turn_standing, turn_shadow, turn_open, turns, closed, remaining, kept, committed, first_off, commit_puts, commit_lead, commit_open, commits, abort_open, aborts, Call, set_allowance, begin, turn, commit, abort, does}
+use Rattle.serial.specs.Rules.{Engine, State, Done, slots, fresh_engine, script_of, is_open, row, shadow, with_shadow, clean, furthest_of, any_shadow, count, has_room, account, read_conflict, account_read, account_reads, write_conflict, account_write, account_writes, before_step, after_step, lead_moves, shadow_moves, standing, in_range, first_open, allow_closed, begun, begin_with, turn_step, turn_standing, turn_shadow, turn_open, remaining, kept, committed, first_off, commit_puts, commit_open, abort_open, Call, set_allowance, begin, turn, commit, abort, does}
 use Rattle.serial.specs.Sound.{ends_within, script_fits, shadow_fits, SoundEngine}
 use Rattle.serial.proofs.Steps.{noted}
 use Rattle.serial.proofs.Runs.{stepped, next-ends}
-use Rattle.serial.proofs.Table.{none_is_some, some_is, none_is, some_or_none, Sized, shadow-within, row_put, row_put_other, shadow_put, shadow_put_place, shadow_put_row, sized_put, count_set, count_add, remaining_at, kept_was, kept-unread, furthest_of_among}
+use Rattle.serial.proofs.Table.{none_is_some, some_is, none_is, some_or_none, Sized, shadow-within, row_put, row_put_other, shadow_put, shadow_put_place, shadow_put_row, sized_put, count_set, count_add, remaining_at, kept_was, furthest_of_among}
 use Rattle.serial.proofs.Turns.{open_within}
 use Rattle.serial.proofs.Commits.{none_of, none_for, others_kept, lead_stays, lead_renewed, lead_none, committed-sized, committed-count, script-there, script_other, abort_is}
-use Rattle.serial.proofs.Calls.{Good, fresh_good, none_open, count_none}
+use Rattle.serial.proofs.Calls.{fresh_good, none_open, count_none}
 
 -- a shadow that fits its script
 abbrev pub FitsScript : Steps → Stand → Type 0

@@ -1,7 +1,7 @@
 -- What one step does, told by what it reads and writes. Assumes nothing.
-use Rattle.std.proofs.Common.{◌≡◌, ℕ, zero, suc, ◌+◌, ◌<◌, ◌≤◌, Bool, true, false, cond, ◌||◌, eqb, ltb, List, [], ◌∷◌, ◌++◌, length, get_or, set, Some, None, Option, sym, refl, ap, ◌∙◌, subst, ⊎_elim, arith}
+use Rattle.std.proofs.Common.{◌≡◌, ℕ, ◌+◌, ◌<◌, ◌≤◌, Bool, true, false, ◌||◌, eqb, ltb, List, [], ◌∷◌, ◌++◌, length, get_or, Some, None, Option, sym, refl, ap, ◌∙◌, subst, ⊎_elim, arith}
 use Rattle.std.proofs.lemmas.List.{append-nil}
-use Rattle.std.proofs.lemmas.Bool.{cases_Bool, cond-true, cond-false, cond_both, ltb-true, lt-ltb, eqb-true, eq-eqb, ne_eqb, cases_eq}
+use Rattle.std.proofs.lemmas.Bool.{cases_Bool, cond-true, cond-false, cond_both, ltb-true, lt-ltb, eqb-true}
 use Rattle.pages.specs.Pages.{entry}
 use Rattle.pages.specs.declared.WriteEntry.{WriteEntry}
 use Rattle.script.specs.declared.Register.{Register}
@@ -10,7 +10,7 @@ use Rattle.script.specs.declared.Action.TheVariants.{Read, ReadIndexed, Write, W
 use Rattle.script.specs.declared.Step.{Step}
 use Rattle.script.specs.Laws.{leaves_out}
 use Rattle.serial.specs.declared.ReadEntry.{ReadEntry}
-use Rattle.serial.specs.Machine.{Meaning, Stand, written, write, holds, Effect, reading, writing, setting, leaving, does_action, effect, with_register, recorded, with_write, Taken, moved, off_pages, take_read, take_effect, takes, page_read, page_written, unless_own, from_store, store_read, write_of, has_written}
+use Rattle.serial.specs.Machine.{Meaning, Stand, written, write, holds, Effect, reading, writing, setting, leaving, does_action, effect, with_register, recorded, with_write, moved, off_pages, take_read, take_effect, takes, page_read, page_written, unless_own, from_store, store_read, write_of, has_written}
 
 -- the read that a step records
 abbrev pub noted : ℕ → Option ℕ → List ReadEntry

@@ -1,10 +1,10 @@
 -- Laws of the table of shadows: places, counts and the furthest. Assumes nothing.
-use Rattle.std.proofs.Common.{◌≡◌, ℕ, zero, suc, ◌+◌, ◌<◌, ◌≤◌, Bool, true, false, cond, not, ◌&&◌, ◌||◌, eqb, ltb, leb, ◌≢◌, ◌⊎◌, List, [], ◌∷◌, map, length, get_or, set, is_some, Some, None, Option, unwrap_or, sym, refl, ap, ◌∙◌, subst, inl, inr, ⊎_elim, arith, length-set, get_or-set_other, get_or-set_same}
+use Rattle.std.proofs.Common.{◌≡◌, ℕ, zero, suc, ◌<◌, ◌≤◌, Bool, true, false, ◌&&◌, ltb, ◌≢◌, ◌⊎◌, List, [], ◌∷◌, length, get_or, set, is_some, Some, None, Option, sym, refl, ap, ◌∙◌, subst, inl, inr, ⊎_elim, arith, length-set, get_or-set_other, get_or-set_same}
 use Rattle.std.proofs.lemmas.List.{get_or_past}
-use Rattle.std.proofs.lemmas.Bool.{cases_Bool, cases_eq, cases_lt, cond-true, cond-false, and_parts, and_cases, ltb-true, ltb-false, true≢false}
+use Rattle.std.proofs.lemmas.Bool.{cases_Bool, cases_eq, cases_lt, cond-true, cond-false, and_parts, ltb-true, ltb-false, true≢false}
 use Rattle.pages.specs.declared.WriteEntry.{WriteEntry}
-use Rattle.serial.specs.Machine.{Steps, Stand, start, has_read_any}
-use Rattle.serial.specs.Rules.{Row, Engine, row, shadow, with_shadow, ahead, better, furthest, furthest_of, any_shadow, count, kept, remaining}
+use Rattle.serial.specs.Machine.{Stand, has_read_any}
+use Rattle.serial.specs.Rules.{Row, Engine, row, shadow, with_shadow, ahead, better, furthest, furthest_of, count, kept, remaining}
 
 pub none_is_some : {X A : Type 0} (x : X) → ◌≡◌ {A = Option X} None (Some x) → A
 none_is_some x e = let z : ◌≡◌ {A = ℕ} 0 1 = cc in absurd (omega arith)

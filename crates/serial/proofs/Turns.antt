@@ -1,18 +1,17 @@
 -- A turn keeps the invariant. Assumes nothing.
-use Rattle.std.proofs.Common.{◌≡◌, ℕ, zero, suc, ◌+◌, ◌<◌, ◌≤◌, Bool, true, false, cond, not, ◌&&◌, ◌||◌, eqb, ltb, leb, ◌≢◌, ◌⊎◌, List, [], ◌∷◌, ◌++◌, length, get_or, set, is_some, Some, None, Option, unwrap_or, sym, refl, ap, ◌∙◌, subst, inl, inr, ⊎_elim, arith}
+use Rattle.std.proofs.Common.{◌≡◌, ℕ, zero, suc, ◌<◌, ◌≤◌, Bool, true, false, not, ◌&&◌, ◌||◌, eqb, leb, ◌≢◌, ◌⊎◌, List, [], ◌∷◌, get_or, is_some, Some, None, Option, sym, refl, ap, ◌∙◌, subst, inl, inr, ⊎_elim, arith}
 use Rattle.std.specs.List.{slice_get}
-use Rattle.std.proofs.lemmas.Bool.{cases_Bool, cases_eq, cond-true, cond-false, cond_both, and_parts, and_from, and_cases, or_cases, or_parts, or_left, or_from, not-true, not-false, not_from_false, not_from_true, eq-eqb, ne_eqb, eqb-true, eqb-false, leb-true, leb-false, true≢false, both_ways}
-use Rattle.script.specs.Laws.{EndsAtEnd}
+use Rattle.std.proofs.lemmas.Bool.{cases_Bool, cases_eq, cond-true, cond-false, cond_both, and_parts, and_from, and_cases, or_cases, or_parts, or_from, not-true, not-false, not_from_false, eq-eqb, ne_eqb, eqb-false, leb-false, true≢false, both_ways}
 use Rattle.serial.specs.declared.ReadEntry.{ReadEntry}
-use Rattle.serial.specs.Machine.{Meaning, Steps, Stand, start, moved, store_read, write_of, has_read, has_written, has_read_any}
-use Rattle.serial.specs.Alone.{next, on_list}
+use Rattle.serial.specs.Machine.{Meaning, Steps, Stand, start, store_read, write_of, has_read, has_written, has_read_any}
+use Rattle.serial.specs.Alone.{on_list}
 use Rattle.serial.specs.Laws.{Next, Leads, here, more}
-use Rattle.serial.specs.Rules.{Row, Engine, slots, script_of, is_open, row, shadow, with_shadow, own_of, reads_of, place_of, lead_writes, count, has_room, account, read_conflict, account_read, account_reads, write_conflict, account_write, account_writes, before_step, after_step, lead_moves, shadow_moves, waits}
-use Rattle.serial.proofs.Steps.{noted, named, Moves}
-use Rattle.serial.proofs.Runs.{stepped, next-rises, next_same, leads-rises, leads_snoc, reached_later, read_any_append}
-use Rattle.serial.proofs.Table.{none_is_some, some_is, none_is, some_or_none, there-within, Sized, shadow-within, row_put, row_put_other, shadow_put, shadow_put_place, shadow_put_row, sized_put, count_set}
+use Rattle.serial.specs.Rules.{Engine, slots, script_of, is_open, row, shadow, with_shadow, own_of, reads_of, place_of, lead_writes, count, has_room, account, read_conflict, account_read, account_reads, write_conflict, account_write, account_writes, before_step, after_step, lead_moves, shadow_moves, waits}
+use Rattle.serial.proofs.Steps.{noted}
+use Rattle.serial.proofs.Runs.{stepped, next_same, leads-rises, leads_snoc, reached_later, read_any_append}
+use Rattle.serial.proofs.Table.{none_is_some, some_is, none_is, there-within, Sized, shadow-within, row_put, row_put_other, shadow_put, shadow_put_place, shadow_put_row, sized_put, count_set}
 use Rattle.serial.proofs.Conflicts.{read_named, read_any_more, read_named_shrinks, noted_any}
-use Rattle.serial.proofs.Kept.{Exempt, no_exempt, RowInv, Inv, row_like, Fork, fork_inv, Accounted, accounted, account_inv, account-row, account-there, room_for_all}
+use Rattle.serial.proofs.Kept.{Exempt, no_exempt, RowInv, Inv, row_like, fork_inv, accounted, account_inv, account-row, account-there, room_for_all}
 
 -- membership in a list of slots
 abbrev pub In : ℕ → List ℕ → Type 0

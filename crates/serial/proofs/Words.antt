@@ -1,27 +1,24 @@
 -- The rules satisfy what is said of them in words. Assumes nothing.
-use Rattle.std.proofs.Common.{◌≡◌, ℕ, zero, suc, ◌+◌, ◌<◌, ◌≤◌, Bool, true, false, cond, not, ◌&&◌, ◌||◌, eqb, ltb, leb, ◌≢◌, ◌⊎◌, List, [], ◌∷◌, length, get_or, set, is_some, Some, None, Ok, Err, Option, Result, unwrap_or, sym, refl, ap, ◌∙◌, subst, inl, inr, ⊎_elim, arith}
+use Rattle.std.proofs.Common.{◌≡◌, ℕ, zero, suc, ◌+◌, ◌<◌, ◌≤◌, Bool, true, false, not, ◌&&◌, ◌||◌, eqb, ltb, leb, ◌≢◌, ◌⊎◌, List, [], ◌∷◌, length, get_or, is_some, Some, None, Ok, Err, Option, Result, unwrap_or, sym, refl, ap, ◌∙◌, subst, inl, inr, ⊎_elim, arith}
 use Rattle.std.specs.List.{slice_get}
-use Rattle.std.proofs.lemmas.Bool.{cases_Bool, cases_eq, cases_lt, cond-true, cond-false, cond_both, and_parts, and_from, and_cases, or_cases, or_left, or_right, leb-true, le-leb, ltb-true, lt-ltb, le-ltb, or_from, ltb-false, eqb-true, eqb-false, eq-eqb, not-true, not-false, not_from_true, not_from_false, true≢false, both_ways}
+use Rattle.std.proofs.lemmas.Bool.{cases_Bool, cases_eq, cases_lt, cond-true, cond-false, cond_both, and_parts, and_from, or_cases, or_left, or_right, le-leb, ltb-true, lt-ltb, le-ltb, or_from, ltb-false, eqb-true, eqb-false, eq-eqb, not-true, not-false, not_from_true, not_from_false, true≢false, both_ways}
 use Rattle.pages.specs.declared.WriteEntry.{WriteEntry}
 use Rattle.script.specs.Script.{decoded}
 use Rattle.script.specs.declared.ScriptFault.{ScriptFault}
 use Rattle.serial.specs.declared.fault.CallFault.{CallFault}
-use Rattle.serial.specs.declared.fault.Turned.{Turned}
-use Rattle.serial.specs.declared.fault.Turned.TheVariants.{Moved, Ended, Waiting}
+use Rattle.serial.specs.declared.fault.Turned.TheVariants.{Moved}
 use Rattle.serial.specs.declared.fault.Standing.{Standing}
 use Rattle.serial.specs.declared.fault.Standing.TheVariants.{AtEnd, Halted, Ready}
-use Rattle.serial.specs.declared.fault.Answer.{Answer}
-use Rattle.serial.specs.declared.fault.Answer.TheVariants.{Allowed, Begun, Took, Committed, Aborted, Declined}
+use Rattle.serial.specs.declared.fault.Answer.TheVariants.{Took, Declined}
 use Rattle.serial.specs.Machine.{Meaning, Steps, Stand, start, Taken, moved, off_pages, store_read, write_of, has_read, has_written, has_read_any}
-use Rattle.serial.specs.Alone.{next, put_all}
+use Rattle.serial.specs.Alone.{next}
 use Rattle.serial.specs.Rules.{Row, Engine, State, Done, slots, script_of, is_open, row, shadow, with_shadow, reads_of, own_of, lead_writes, ahead, better, furthest, furthest_of, any_shadow, clean, count, has_room, account, read_conflict, account_read, account_reads, write_conflict, account_write, account_writes, before_step, after_step, lead_moves, shadow_moves, standing, in_range, first_open, allow_closed, begin_with, turn_step, turn_standing, turn_shadow, turn_open, kept, remaining, committed, first_off, commit_puts, commit_open, abort_open, Call, set_allowance, begin, turn, commit, abort, does}
-use Rattle.serial.specs.Sound.{SoundEngine}
-use Rattle.serial.specs.Words.{NotBefore, Furthest, PicksFurthest, unread, CommitsSo, AccountsInWords, AccountedFor, TurnsSo, CommitsInWords, TurnsInWords, DeclinedChangesNothing}
-use Rattle.serial.proofs.Table.{none_is_some, some_is, none_is, some_or_none, there-within, Sized, shadow-within, shadow_put, shadow_put_place, shadow_put_row, count_set, remaining_at, kept_was, kept-unread}
+use Rattle.serial.specs.Words.{Furthest, PicksFurthest, unread, CommitsSo, AccountsInWords, TurnsSo, CommitsInWords, TurnsInWords, DeclinedChangesNothing}
+use Rattle.serial.proofs.Table.{none_is_some, none_is, there-within, shadow-within, shadow_put, shadow_put_place, shadow_put_row, count_set, remaining_at, kept_was, kept-unread}
 use Rattle.serial.proofs.Turns.{open_within, moves-scripts}
 use Rattle.serial.proofs.Commits.{none_of, none_for, others_kept, lead_stays, lead_renewed, script-there, script_other}
 use Rattle.serial.proofs.Booking.{commit-leaves}
-use Rattle.serial.proofs.Sound.{ok_from, Holds, Stays, reads_stay, writes_stay, before_stays, open_same, put_ok, next_fits}
+use Rattle.serial.proofs.Sound.{ok_from, Holds, reads_stay, writes_stay, before_stays, open_same, put_ok, next_fits}
 
 -- places in the order in which they count: the leading one is looked at first, then all in slot order
 module _ (test : Stand → Bool) where

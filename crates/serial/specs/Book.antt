@@ -1,12 +1,10 @@
 -- The serial book: what the calls come to if each transaction had run alone, at its commit. Assumes nothing.
-use Rattle.std.specs.Prelude.{◌≡◌, ℕ, ◌<◌, ◌≤◌, Bool, true, false, ◌≢◌, List, [], ◌∷◌, ◌++◌, length, set, replicate, is_some, Some, None, Ok, Err, Option, Result, slice_index_or, slice_set}
+use Rattle.std.specs.Prelude.{◌≡◌, ℕ, ◌<◌, ◌≤◌, true, false, ◌≢◌, List, [], ◌∷◌, ◌++◌, length, replicate, is_some, Some, None, Ok, Err, Option, Result, slice_index_or, slice_set}
 use Rattle.pages.specs.declared.WriteEntry.{WriteEntry}
 use Rattle.script.specs.declared.Register.TheVariants.{R0}
 use Rattle.script.specs.declared.ScriptFault.{ScriptFault}
 use Rattle.script.specs.Script.{decoded}
-use Rattle.serial.specs.declared.fault.CallFault.{CallFault}
-use Rattle.serial.specs.declared.fault.Turned.{Turned}
-use Rattle.serial.specs.declared.fault.Turned.TheVariants.{Moved, Ended, Waiting}
+use Rattle.serial.specs.declared.fault.Turned.TheVariants.{Waiting}
 use Rattle.serial.specs.declared.fault.Answer.{Answer}
 use Rattle.serial.specs.declared.fault.Answer.TheVariants.{Allowed, Begun, Took, Committed, Aborted, Declined}
 use Rattle.serial.specs.Machine.{Meaning, Steps, Stand, holds}

@@ -1,5 +1,5 @@
 -- What holds in every engine, whatever store it was called with. Assumes nothing.
-use Rattle.std.specs.Prelude.{◌≡◌, ℕ, suc, ◌+◌, ◌<◌, ◌≤◌, Bool, true, false, ◌&&◌, List, [], ◌∷◌, length, is_some, Some, None, Option, nat_le}
+use Rattle.std.specs.Prelude.{◌≡◌, ℕ, suc, ◌+◌, ◌<◌, ◌≤◌, Bool, true, false, ◌&&◌, [], ◌∷◌, length, is_some, Some, None, Option, nat_le}
 use Rattle.script.specs.Laws.{leaves_out}
 use Rattle.serial.specs.Machine.{Meaning, Steps, Stand}
 use Rattle.serial.specs.Rules.{Engine, State, fresh_engine, Call, does, script_of, is_open, row, shadow, count}

@@ -7,7 +7,7 @@ use Rattle.serial.specs.declared.fault.Answer.TheVariants.{Took, Committed, Decl
 use Rattle.serial.specs.declared.fault.CallFault.{CallFault}
 use Rattle.serial.specs.Machine.{Meaning, Steps, Stand, start, moved, store_read, write_of, has_read, has_written, has_read_any}
 use Rattle.serial.specs.Alone.{next, put_all}
-use Rattle.serial.specs.Rules.{Row, Engine, State, Call, turn, commit, does, script_of, is_open, row, shadow, reads_of, lead_writes, clean, furthest_of, count, account, committed}
+use Rattle.serial.specs.Rules.{Row, Engine, State, Call, turn, commit, does, script_of, is_open, row, shadow, reads_of, lead_writes, clean, furthest_of, count, account}
 use Rattle.serial.specs.Sound.{SoundEngine}
 
 -- of slot t's shadows, y in place w does not count before s in place u: it is behind; or level, and s leads, or neither

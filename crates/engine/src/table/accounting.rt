@@ -1,7 +1,7 @@
 // Accounting: a slot whose leading shadow conflicts with another's gets a shadow for it.
 ghost use Rattle.std.specs.Prelude.{◌≡◌, ◌<◌};
 ghost use Rattle.std.specs.Option.{option_map};
-ghost use Rattle.serial.specs.Machine.{has_read, has_written as Stands-on};
+ghost use Rattle.serial.specs.Machine.{has_read, has_written as stands_on};
 ghost use Rattle.serial.specs.Rules.{slots, row as row_at, own_of, reads_of, shadow as shadow-at, lead_writes, clean, furthest_of, has_room, account as accounted, read_conflict, account_read, account_reads, write_conflict, account_write, account_writes, before_step, after_step};
 ghost use Rattle.engine.specs.View.{stand_of};
 ghost use Rattle.engine.specs.Table.{engine_of};
@@ -24,7 +24,7 @@ impl Table {
     // Whether slot u's leading shadow has written the page.
     pub(crate) fn lead_has_written(&self, u: usize, page: u32) -> bool
         requires { u < 8 }
-        ensures { result ≡ Stands-on (lead_writes (engine_of self.now) u) page }
+        ensures { result ≡ stands_on (lead_writes (engine_of self.now) u) page }
     {
         let lead = self.shadow(u, u);
         has_written(own_of(&lead), page)

@@ -1,4 +1,4 @@
-use Rattle.std.proofs.Common.{◌≡◌, ◌++◌, map, get_or, Some, vec_items, ap, ◌∙◌, arith, take_all}
+use Rattle.std.proofs.Common.{◌++◌, map, get_or, Some, vec_items, ap, ◌∙◌, arith, take_all}
 use Rattle.std.specs.Option.{option_to_list}
 use Rattle.gorsepick.specs.Digits.{halves, digit_value}
 use Rattle.gorsepick.proofs.Halves.{digit_push}

@@ -1,4 +1,4 @@
-use Rattle.std.proofs.Common.{◌≡◌, ◌<◌, ◌≤◌, length, get_or, take, set, sym, refl, ap, ◌∙◌, subst, arith, length-set, take_all}
+use Rattle.std.proofs.Common.{◌≡◌, ◌<◌, ◌≤◌, length, get_or, take, sym, refl, ap, ◌∙◌, subst, arith, length-set, take_all}
 use Rattle.pages.specs.Pages.{Chain, numbered}
 use Rattle.pages.proofs.Chains.{chain_push, numbered_more, filled_more}
 use Rattle.pages.proofs.load.load_pages.Goals as goal

@@ -1,8 +1,7 @@
-use Rattle.std.proofs.Common.{◌≡◌, ◌+◌, ◌-◌, ◌<◌, ◌≤◌, length, get_or, take, drop, Ok, sym, refl, ap, ◌∙◌, arith, length-drop, length-take, rules}
-use Rattle.std.proofs.lemmas.List.{length_push}
-use Rattle.basics.specs.Trail.{items_of, pushed}
+use Rattle.std.proofs.Common.{◌≡◌, ◌+◌, ◌-◌, ◌<◌, length, drop, Ok, sym, refl, ap, ◌∙◌, arith, length-drop, length-take, rules}
+use Rattle.basics.specs.Trail.{items_of}
 use Rattle.script.specs.Script.{steps_told, steps_to}
-use Rattle.script.proofs.Decoded.{Fit, fit_facts, code_there, steps_more, steps_stop, decoded-fit, length-pushed, decodes}
+use Rattle.script.proofs.Decoded.{fit_facts, code_there, steps_more, steps_stop, decoded-fit, length-pushed, decodes}
 use Rattle.script.proofs.decoding.decode.Goals as goal
 
 pub decode_step-requires : goal.decode_step-requires

@@ -1,4 +1,4 @@
-use Rattle.std.proofs.Common.{◌≡◌, ◌≤◌, length, sym, arith, take_all}
+use Rattle.std.proofs.Common.{◌≤◌, length, sym, arith, take_all}
 use Rattle.basics.proofs.trail.Trail.as_slice.Goals as goal
 
 pub returns-else-self-lt-ROOM : goal.returns-else-self-lt-ROOM

@@ -1,4 +1,4 @@
-use Rattle.std.proofs.Common.{◌≡◌, ◌<◌, ◌≤◌, length, take, sym, ap, ◌∙◌, arith}
+use Rattle.std.proofs.Common.{◌<◌, ◌≤◌, length, take, sym, arith}
 use lib.Seq.{set_out}
 use Rattle.basics.specs.Trail.{items_of}
 use Rattle.basics.proofs.Lists.{front_set}

@@ -1,4 +1,4 @@
-use Rattle.std.proofs.Common.{◌≡◌, ◌<◌, ◌≤◌, true, [], Some, None, sym, refl, ap, ◌∙◌, arith}
+use Rattle.std.proofs.Common.{◌≡◌, true, [], Some, sym, ◌∙◌}
 use Rattle.serial.specs.declared.fault.Answer.TheVariants.{Aborted}
 use Rattle.serial.specs.Rules.{abort, script_of, is_open, closed}
 use Rattle.serial.proofs.Outcomes.{abort_by}

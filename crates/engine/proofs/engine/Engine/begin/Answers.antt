@@ -1,4 +1,4 @@
-use Rattle.std.proofs.Common.{◌≡◌, ◌<◌, ◌≤◌, false, [], Ok, sym, refl, ap, ◌∙◌}
+use Rattle.std.proofs.Common.{◌≡◌, false, [], Ok, sym, ◌∙◌}
 use Rattle.script.specs.View.{steps_of}
 use Rattle.serial.specs.declared.fault.Answer.TheVariants.{Begun}
 use Rattle.serial.specs.Rules.{begin, begun, is_open}

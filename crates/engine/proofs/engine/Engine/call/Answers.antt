@@ -1,4 +1,4 @@
-use Rattle.std.proofs.Common.{◌≡◌, sym, refl, ap, ◌∙◌, subst}
+use Rattle.std.proofs.Common.{sym, refl, ap, ◌∙◌, subst}
 use Rattle.pages.specs.Pages.{Chain}
 use Rattle.serial.specs.Rules.{does, list_put}
 use Rattle.engine.specs.Table.{engine_of}

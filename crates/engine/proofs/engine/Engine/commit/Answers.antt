@@ -1,4 +1,4 @@
-use Rattle.std.proofs.Common.{◌≡◌, ◌<◌, ◌≤◌, length, Some, None, sym, refl, ap, ◌∙◌, subst, arith}
+use Rattle.std.proofs.Common.{◌≡◌, ◌≤◌, length, None, sym, ap, ◌∙◌, arith}
 use Rattle.script.specs.View.{steps_of}
 use Rattle.script.specs.declared.Register.TheVariants.{R0}
 use Rattle.serial.specs.declared.fault.Answer.TheVariants.{Committed}

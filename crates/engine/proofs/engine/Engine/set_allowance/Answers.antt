@@ -1,7 +1,7 @@
-use Rattle.std.proofs.Common.{◌≡◌, ◌<◌, ◌≤◌, [], Some, None, sym, refl, ap, ◌∙◌, arith}
+use Rattle.std.proofs.Common.{◌≤◌, [], None, sym, ◌∙◌, arith}
 use Rattle.serial.specs.Rules.{set_allowance}
 use Rattle.serial.specs.declared.fault.Answer.TheVariants.{Allowed}
-use Rattle.serial.proofs.Outcomes.{allow_low, allow_high, allow_by}
+use Rattle.serial.proofs.Outcomes.{allow_by}
 use Rattle.engine.specs.Table.{engine_of, with_allowance}
 use Rattle.engine.specs.Calls.{state_of}
 use Rattle.engine.proofs.Kept.{kept_by, idle}

@@ -1,4 +1,4 @@
-use Rattle.std.proofs.Common.{◌≡◌, ◌+◌, ◌<◌, ◌≤◌, [], ◌∷◌, ◌++◌, length, get_or, take, drop, set, sym, refl, ap, ◌∙◌, subst, arith, length-set, take-append-drop, drop-set-lt}
+use Rattle.std.proofs.Common.{◌≡◌, ◌+◌, ◌<◌, [], ◌∷◌, ◌++◌, length, get_or, take, drop, sym, ap, ◌∙◌, subst, arith, length-set, drop-set-lt}
 use Rattle.std.proofs.lemmas.List.{take_more_set, drop-drop}
 use Rattle.pages.specs.Pages.{Chain}
 use Rattle.serial.specs.Rules.{fresh, after, answers, list_put, lists_put}

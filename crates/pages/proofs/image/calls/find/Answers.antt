@@ -1,6 +1,6 @@
-use Rattle.std.proofs.Common.{◌≡◌, ◌+◌, ◌-◌, ◌*◌, sym, ap, ◌∙◌}
+use Rattle.std.proofs.Common.{◌+◌, ◌-◌, sym, ap, ◌∙◌}
 use Rattle.basics.specs.Bytes.{big_endian}
-use Rattle.pages.specs.Image.{named_page, named_word, image_named, number_offset}
+use Rattle.pages.specs.Image.{named_page, named_word, number_offset}
 use Rattle.pages.proofs.Entries.{latest_found, latest_passed}
 use Rattle.pages.proofs.image.calls.find.Goals as goal
 

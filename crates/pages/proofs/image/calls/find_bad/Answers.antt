@@ -1,4 +1,4 @@
-use Rattle.std.proofs.Common.{sym, ap, ◌∙◌}
+use Rattle.std.proofs.Common.{sym, ap}
 use Rattle.pages.specs.Image.{bad_number}
 use Rattle.pages.proofs.Images.{none_more, first_found}
 use Rattle.pages.proofs.image.calls.find_bad.Goals as goal

@@ -1,6 +1,6 @@
 use Rattle.std.proofs.Common.{◌≡◌, true, sym, ◌∙◌}
 use Rattle.pages.specs.Log.{sound}
-use Rattle.pages.proofs.Logs.{turn-within, turn_carries, turn-sound, emptied-sound}
+use Rattle.pages.proofs.Logs.{turn-within, turn_carries, turn-sound}
 use Rattle.pages.proofs.log.Log.empty.Goals as goal
 
 pub bounds-self-page : goal.bounds-self-page

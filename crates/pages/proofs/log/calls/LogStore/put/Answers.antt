@@ -1,5 +1,5 @@
-use Rattle.std.proofs.Common.{◌≡◌, ◌<◌, ◌≤◌, length, sym, refl, ap, ◌∙◌, arith}
-use Rattle.pages.specs.Log.{log_pages, used, capacity, size_word, with_room, appended}
+use Rattle.std.proofs.Common.{◌<◌, length, refl, ap, ◌∙◌, arith}
+use Rattle.pages.specs.Log.{log_pages, used, capacity, size_word, appended}
 use Rattle.pages.proofs.Logs.{ready, below_size, put_pages}
 use Rattle.pages.proofs.log.calls.LogStore.put.Goals as goal
 
