@@ -2,7 +2,7 @@
 ghost use Rattle.std.specs.Prelude.{◌≡◌, ◌+◌, ◌<◌, true, [], ◌∷◌, is_some, Some, None, slice_index_or, slice_set};
 ghost use Rattle.std.specs.Option.{unwrap_or, option_map};
 ghost use Rattle.serial.specs.Machine.{start as started, takes};
-ghost use Rattle.serial.specs.Rules.{no_shadows, ahead, better as better-of, furthest_of, any_shadow, count as counted, kept, remaining, spoils, renewed};
+ghost use Rattle.serial.specs.Rules.{no_shadows, ahead, better as better_of, furthest_of, any_shadow, count as counted, kept, remaining, spoils, renewed};
 ghost use Rattle.engine.specs.View.{stand_of, Room};
 ghost use Rattle.engine.specs.Table.{row_of, unread, Lent};
 
@@ -35,7 +35,7 @@ fn tally(n: usize, entry: &Option<Shadow>) -> usize
 
 // The better of two: the first, unless the other has read no page of the list and is ahead.
 fn better(best: Option<Shadow>, other: Option<Shadow>, list: &[WriteEntry]) -> Option<Shadow>
-    ensures { option_map stand_of result ≡ better-of (unread list.now) (option_map stand_of best) (option_map stand_of other) }
+    ensures { option_map stand_of result ≡ better_of (unread list.now) (option_map stand_of best) (option_map stand_of other) }
 {
     match other {
         Some(shadow) if !shadow.has_read_any(list) && is_ahead(&shadow, &best) => other,

@@ -1,7 +1,7 @@
 // A shadow: how far a script has come on its own, over pages that it does not change.
 ghost use Rattle.std.specs.Prelude.{◌≡◌};
 ghost use Rattle.std.specs.List.{slice_get};
-ghost use Rattle.serial.specs.Machine.{start as started, index, holds, written as word-written, has_read, has_written, has_read_any, indexed, page_read, page_written, store_read, write_of};
+ghost use Rattle.serial.specs.Machine.{start as started, index, holds, written as word_written, has_read, has_written, has_read_any, indexed, page_read, page_written, store_read, write_of};
 ghost use Rattle.engine.specs.View.{stand_of, Placed};
 
 use basics::Trail;
@@ -96,7 +96,7 @@ impl Shadow {
 
     // The word that the shadow has written to a page.
     pub(crate) fn written(&self, page: u32) -> Option<u32>
-        ensures { result ≡ word-written (stand_of self.now).own page }
+        ensures { result ≡ word_written (stand_of self.now).own page }
     {
         let own = self.own.as_slice();
         let at = place(own, page)?;

@@ -2,7 +2,7 @@
 ghost use Rattle.std.specs.Prelude.{◌≡◌, ◌<◌, IfSome, Some, None};
 ghost use Rattle.std.specs.Option.{option_map};
 ghost use Rattle.script.specs.View.{steps_of};
-ghost use Rattle.serial.specs.Rules.{fresh_engine, script_of, is_open, row as row_at, shadow as shadow-at, with_shadow, first_open as lowest-open, begun, closed, renew, committed};
+ghost use Rattle.serial.specs.Rules.{fresh_engine, script_of, is_open, row as row_at, shadow as shadow_at, with_shadow, first_open as lowest_open, begun, closed, renew, committed};
 ghost use Rattle.engine.specs.View.{stand_of};
 ghost use Rattle.engine.specs.Table.{row_of, engine_of, with_allowance, with_rows, without_column};
 
@@ -61,7 +61,7 @@ impl Table {
 
     // The lowest open slot.
     pub(crate) fn first_open(&self) -> Option<usize>
-        ensures lowest { result ≡ lowest-open 0 (engine_of self.now).scripts }
+        ensures lowest { result ≡ lowest_open 0 (engine_of self.now).scripts }
         ensures within { IfSome result (λ t. t < 8) }
     {
         let all = &self.scripts[..];
@@ -83,7 +83,7 @@ impl Table {
     // Slot t's shadow for u, or its leading shadow where that is t.
     pub(crate) fn shadow(&self, t: usize, u: usize) -> Option<Shadow>
         requires { (t < 8) × (u < 8) }
-        ensures { option_map stand_of result ≡ shadow-at (engine_of self.now) t u }
+        ensures { option_map stand_of result ≡ shadow_at (engine_of self.now) t u }
     {
         self.row(t).get(u)
     }

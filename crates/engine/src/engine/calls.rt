@@ -4,7 +4,7 @@ ghost use Rattle.std.specs.Option.{unwrap_or};
 ghost use Rattle.serial.specs.declared.fault.CallFault.TheVariants.{NoSlot};
 ghost use Rattle.serial.specs.declared.fault.Answer.TheVariants.{Allowed, Begun, Took, Committed, Aborted};
 ghost use Rattle.serial.specs.Machine.{start as started};
-ghost use Rattle.serial.specs.Rules.{fresh_engine, shadow as shadow-at, lead_writes, first_off, allows, begins, turns, commits, aborts};
+ghost use Rattle.serial.specs.Rules.{fresh_engine, shadow as shadow_at, lead_writes, first_off, allows, begins, turns, commits, aborts};
 ghost use Rattle.engine.specs.View.{stand_of};
 ghost use Rattle.engine.specs.Table.{engine_of};
 ghost use Rattle.engine.specs.Alone.{Inside};
@@ -32,7 +32,7 @@ pub(crate) fn slot_of(slot: u32) -> Result<usize, CallFault>
 // The leading shadow of an open slot.
 fn lead_of(table: &Table, t: usize) -> Shadow
     requires { t < 8 }
-    ensures { stand_of result ≡ unwrap_or (shadow-at (engine_of table.now) t t) started }
+    ensures { stand_of result ≡ unwrap_or (shadow_at (engine_of table.now) t t) started }
 {
     match table.shadow(t, t) {
         Some(lead) => lead,

@@ -1,7 +1,7 @@
 // Questions, which change nothing.
 ghost use Rattle.std.specs.Prelude.{◌≡◌};
 ghost use Rattle.std.specs.Option.{option_map};
-ghost use Rattle.serial.specs.Rules.{shadow as shadow-at};
+ghost use Rattle.serial.specs.Rules.{shadow as shadow_at};
 ghost use Rattle.engine.specs.View.{stand_of};
 ghost use Rattle.engine.specs.Table.{engine_of};
 ghost use Rattle.engine.specs.Questions.{stand_told, entry_told};
@@ -49,7 +49,7 @@ impl Engine {
 
     // A copy of a shadow, where there is one.
     pub fn shadow(&self, slot: u32, other: u32) -> Option<Shadow>
-        ensures { option_map stand_of result ≡ shadow-at (engine_of self.now.table) slot other }
+        ensures { option_map stand_of result ≡ shadow_at (engine_of self.now.table) slot other }
     {
         if slot > 7 {
             return None;

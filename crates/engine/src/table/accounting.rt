@@ -2,7 +2,7 @@
 ghost use Rattle.std.specs.Prelude.{◌≡◌, ◌<◌};
 ghost use Rattle.std.specs.Option.{option_map};
 ghost use Rattle.serial.specs.Machine.{has_read, has_written as stands_on};
-ghost use Rattle.serial.specs.Rules.{slots, row as row_at, own_of, reads_of, shadow as shadow-at, lead_writes, clean, furthest_of, has_room, account as accounted, read_conflict, account_read, account_reads, write_conflict, account_write, account_writes, before_step, after_step};
+ghost use Rattle.serial.specs.Rules.{slots, row as row_at, own_of, reads_of, shadow as shadow_at, lead_writes, clean, furthest_of, has_room, account as accounted, read_conflict, account_read, account_reads, write_conflict, account_write, account_writes, before_step, after_step};
 ghost use Rattle.engine.specs.View.{stand_of};
 ghost use Rattle.engine.specs.Table.{engine_of};
 
@@ -33,7 +33,7 @@ impl Table {
     // Whether slot t has a shadow for u that has read the page.
     fn shadow_has_read(&self, t: usize, u: usize, page: u32) -> bool
         requires { (t < 8) × (u < 8) }
-        ensures { result ≡ has_read (reads_of (shadow-at (engine_of self.now) t u)) page }
+        ensures { result ≡ has_read (reads_of (shadow_at (engine_of self.now) t u)) page }
     {
         match self.shadow(t, u) {
             Some(shadow) => shadow.has_read(page),

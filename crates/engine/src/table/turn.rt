@@ -4,7 +4,7 @@ ghost use Rattle.std.specs.Option.{unwrap_or};
 ghost use Rattle.script.specs.View.{steps_of};
 ghost use Rattle.serial.specs.Machine.{start as started, takes};
 ghost use Rattle.serial.specs.Alone.{next, on_list};
-ghost use Rattle.serial.specs.Rules.{shadow as shadow-at, with_shadow, place_of, lead_writes, shadow_moves, waits as has-to-wait, standing as stands};
+ghost use Rattle.serial.specs.Rules.{shadow as shadow_at, with_shadow, place_of, lead_writes, shadow_moves, waits as has_to_wait, standing as stands};
 ghost use Rattle.engine.specs.View.{stand_of, Room};
 ghost use Rattle.engine.specs.Table.{engine_of, page_needed, checked, lead_takes, shadow_takes, Stepped, TookTurn, told};
 
@@ -49,7 +49,7 @@ impl Table {
     // Where slot t's leading shadow stands.
     fn lead_step(&self, t: usize) -> usize
         requires { t < 8 }
-        ensures { result ≡ place_of (shadow-at (engine_of self.now) t t) }
+        ensures { result ≡ place_of (shadow_at (engine_of self.now) t t) }
     {
         match self.shadow(t, t) {
             Some(lead) => lead.step(),
@@ -70,7 +70,7 @@ impl Table {
     // Whether t's shadow for u waits, for t's leading shadow or for what u's is to write.
     pub(crate) fn waits(&self, t: usize, u: usize, script: &Script, shadow: &Shadow) -> bool
         requires { (t < 8) × (u < 8) }
-        ensures { result ≡ has-to-wait (engine_of self.now) t u (steps_of script.now) (stand_of shadow.now) }
+        ensures { result ≡ has_to_wait (engine_of self.now) t u (steps_of script.now) (stand_of shadow.now) }
     {
         let step = script.step(shadow.step());
         self.lead_step(t) <= shadow.step() || self.is_on_list(u, shadow.store_read(step))
@@ -104,9 +104,9 @@ impl Table {
         arithmetic: &A,
     ) -> Result<(), StoreFault>
         requires within { (t < 8) × (u < 8) }
-        requires there { is_some (shadow-at (engine_of self.old) t u) ≡ true }
-        requires room { Room (unwrap_or (shadow-at (engine_of self.old) t u) started) }
-        ensures { Stepped self.old (λ e. with_shadow (engine_of self.old) t u (Some e)) (takes (A.Arithmetic.meaning arithmetic.now) (R.Reader.pages reader.now) step.now (unwrap_or (shadow-at (engine_of self.old) t u) started)) result self.new }
+        requires there { is_some (shadow_at (engine_of self.old) t u) ≡ true }
+        requires room { Room (unwrap_or (shadow_at (engine_of self.old) t u) started) }
+        ensures { Stepped self.old (λ e. with_shadow (engine_of self.old) t u (Some e)) (takes (A.Arithmetic.meaning arithmetic.now) (R.Reader.pages reader.now) step.now (unwrap_or (shadow_at (engine_of self.old) t u) started)) result self.new }
     {
         self.rows[t].step(u, step, reader, arithmetic)
     }
@@ -121,7 +121,7 @@ impl Table {
         arithmetic: &A,
     ) -> Result<(), StoreFault>
         requires within { t < 8 }
-        requires there { shadow-at (engine_of self.old) t t ≡ Some (stand_of lead.now) }
+        requires there { shadow_at (engine_of self.old) t t ≡ Some (stand_of lead.now) }
         requires room { Room (stand_of lead.now) }
         ensures { Stepped self.old (λ e. lead_takes (engine_of self.old) t step.now (stand_of lead.now) e) (takes (A.Arithmetic.meaning arithmetic.now) (R.Reader.pages reader.now) step.now (stand_of lead.now)) result self.new }
     {
@@ -143,7 +143,7 @@ impl Table {
         arithmetic: &A,
     ) -> Result<(), StoreFault>
         requires within { (t < 8) × (u < 8) }
-        requires there { shadow-at (engine_of self.old) t u ≡ Some (stand_of shadow.now) }
+        requires there { shadow_at (engine_of self.old) t u ≡ Some (stand_of shadow.now) }
         requires room { Room (stand_of shadow.now) }
         ensures { Stepped self.old (λ e. shadow_takes (engine_of self.old) t u step.now (stand_of shadow.now) e) (takes (A.Arithmetic.meaning arithmetic.now) (R.Reader.pages reader.now) step.now (stand_of shadow.now)) result self.new }
     {
@@ -165,7 +165,7 @@ impl Table {
         arithmetic: &A,
     ) -> Result<(), StepFault>
         requires within { (t < 8) × (u < 8) }
-        requires there { shadow-at (engine_of self.old) t u ≡ Some (stand_of shadow) }
+        requires there { shadow_at (engine_of self.old) t u ≡ Some (stand_of shadow) }
         requires room { Room (stand_of shadow) }
         ensures { TookTurn self.old (λ e. shadow_moves (engine_of self.old) t u (steps_of script.now) (stand_of shadow) e) t (stand_of shadow).step (next (A.Arithmetic.meaning arithmetic.now) (steps_of script.now) (R.Reader.pages reader.now) (stand_of shadow)) result self.new }
     {
