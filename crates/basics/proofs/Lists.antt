@@ -12,9 +12,9 @@ module _ {T : Type 0} (xs : List T) where
 
   pub front_push : (n at : ℕ) (x : T) → length xs ≡ 16 → at ≡ length (take n xs) → at < 16 → take (at + 1) (set xs at x) ≡ pushed (take n xs) x
   front_push n at x room e l =
-      let n-is : n ≡ at = front_length n at room e l in
+      let n_is : n ≡ at = front_length n at room e l in
       let short : length (take n xs) < 16 = omega arith in
-      take_more_set xs at x (omega arith) ∙ ap (λ k. take k xs ++ x ∷ []) (sym n-is)
+      take_more_set xs at x (omega arith) ∙ ap (λ k. take k xs ++ x ∷ []) (sym n_is)
       ∙ sym (cond-true (ltb (length (take n xs)) 16) (take n xs ++ x ∷ []) (take n xs) (lt-ltb _ _ short))
 
   pub front_set : (n i : ℕ) (x : T) → i < length (take n xs) → take n (set xs i x) ≡ set (take n xs) i x

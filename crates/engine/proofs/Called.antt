@@ -30,7 +30,7 @@ abbrev pub IfRefused : Result (Unit {0}) StepFault → Type 0 → Type 0
 IfRefused (Ok x) P = Unit {0}
 IfRefused (Err f) P = P
 
-module _ (ar : Meaning) (e : Held) (pages : List ℕ) (t u : ℕ) (t-in : t ≤ 7) (u-in : u ≤ 7) (sc : Steps) (at : Stand)
+module _ (ar : Meaning) (e : Held) (pages : List ℕ) (t u : ℕ) (t_in : t ≤ 7) (u_in : u ≤ 7) (sc : Steps) (at : Stand)
     (script : script_of (engine_of e.table) t ≡ Some sc) (there : shadow (engine_of e.table) t u ≡ Some at) (ready : standing (engine_of e.table) t u sc at ≡ Ready) where
   -- a turn's step, as the rules have the turn
   pub record TurnedTo (r : Result (Unit {0}) StepFault) (table : Table) : Type 0 where
@@ -44,12 +44,12 @@ module _ (ar : Meaning) (e : Held) (pages : List ℕ) (t u : ℕ) (t-in : t ≤ 
       none_is_some _ (sym h ∙ ap (try_step ar pages at) some)
   by_step (Some (moved to)) h r table k =
       subst (λ x. TurnedTo x table) (sym k.0) (record {
-        rule = turn_by_step (state_of e pages) ar t u sc at (Some (moved to)) t-in u-in script there ready h ∙ ap (λ x. (record { engine = x; pages = pages }, Took Moved)) (sym k.1);
+        rule = turn_by_step (state_of e pages) ar t u sc at (Some (moved to)) t_in u_in script there ready h ∙ ap (λ x. (record { engine = x; pages = pages }, Took Moved)) (sym k.1);
         refused = tt;
       })
   by_step (Some (off_pages p)) h r table k =
       subst (λ x. TurnedTo x table) (sym k.0) (record {
-        rule = turn_by_step (state_of e pages) ar t u sc at (Some (off_pages p)) t-in u-in script there ready h ∙ ap (λ x. (record { engine = engine_of x; pages = pages }, Declined (OffPages (step_fault t at.step (fault_at p))))) (sym k.1);
+        rule = turn_by_step (state_of e pages) ar t u sc at (Some (off_pages p)) t_in u_in script there ready h ∙ ap (λ x. (record { engine = engine_of x; pages = pages }, Declined (OffPages (step_fault t at.step (fault_at p))))) (sym k.1);
         refused = k.1;
       })
 

@@ -54,7 +54,7 @@ sound-set ws k a h past apart =
     let c = get_or-set_other ws k 1 a 0 (λ e. omega arith) in
     let u = get_or-set_other ws k 2 a 0 (λ e. omega arith) in
     let len = length-set ws k a in
-    let old-long = s.long in
+    let old_long = s.long in
     sound_from (set ws k a) (record {
       few = omega (arith, s.few);
       some = omega (arith, s.some);
@@ -151,7 +151,7 @@ module _ (ws : List ℕ) (p w : ℕ) (h : sound ws ≡ true) (room : used ws < c
       let c = capacity-kept in
       let u = used_more in
       let len = length-appended in
-      let old-long = s.long in
+      let old_long = s.long in
       sound_from (appended ws p w) (record {
         few = omega (arith, s.few);
         some = omega (arith, s.some);
@@ -232,7 +232,7 @@ module _ (ws : List ℕ) (h : sound ws ≡ true) (full : used ws ≡ capacity ws
       let c = emptied-capacity in
       let u = emptied-used in
       let len = length-emptied in
-      let old-long = s.long in
+      let old_long = s.long in
       sound_from (emptied ws) (record {
         few = omega (arith, s.few);
         some = omega (arith, s.some);

@@ -15,7 +15,7 @@ use Rattle.serial.specs.Alone.{there, next, stand_at, whole_run, on_list, before
 use Rattle.serial.specs.Laws.{Leads}
 use Rattle.serial.specs.Rules.{State, Done, fresh, script_of, is_open, shadow, place_of, lead_writes, own_of, waits, standing, in_range, first_open, allow_closed, begin_with, turn_step, turn_standing, turn_shadow, turn_open, committed, first_off, commit_puts, commit_lead, commit_open, abort_open, Call, set_allowance, begin, turn, commit, abort, does, after, answers}
 use Rattle.serial.specs.Book.{Ledger, enters, books_run, books_commit, books, book_after, commits_among, Tidy, Rescued, EveryListBooked}
-use Rattle.serial.proofs.Runs.{leads-ends, reached_stand, reached_same, reached_later, past_read, first_of, First}
+use Rattle.serial.proofs.Runs.{leads-ends, reached_stand, reached_same, reached_later, past_read, first_reached, First}
 use Rattle.serial.proofs.Table.{none_is_some, some_is, none_is, some_or_none, shadow-within}
 use Rattle.serial.proofs.Turns.{moves-scripts}
 use Rattle.serial.proofs.Commits.{new_lead}
@@ -121,18 +121,18 @@ module _ (ar : Meaning) where
 
   -- a shadow that a turn finds waiting is waiting
   waiting_waits : (s : State) (v t : ℕ) (sc : Steps) (r : Stand) → v < 8 → t < 8 → t ≢ v → script_of s.engine v ≡ Some sc → shadow s.engine v t ≡ Some r → (does ar (turn v t) s).1 ≡ Took Waiting → waits s.engine v t sc r ≡ true
-  waiting_waits s v t sc r v-in t-in ne script here-now h =
+  waiting_waits s v t sc r v_in t_in ne script here_now h =
       let e = s.engine in
-      let to-shadow : (does ar (turn v t) s).1 ≡ (turn_standing ar s v t sc r (standing e v t sc r)).1 =
-      ap (λ d. d.1) (cond-true (leb v 7) (in_range s t (turn_open ar s v t (script_of e v))) _ (below v v-in)
-      ∙ cond-true (leb t 7) (turn_open ar s v t (script_of e v)) _ (below t t-in)
-      ∙ ap (turn_open ar s v t) script ∙ ap (turn_shadow ar s v t sc) here-now) in
-      let is-standing : standing e v t sc r ≡ cond (waits e v t sc r) Halted Ready = cond-false (eqb t v) (cond (leb (length sc) r.step) AtEnd Ready) (cond (waits e v t sc r) Halted Ready) (ne_eqb t v ne) in
+      let to_shadow : (does ar (turn v t) s).1 ≡ (turn_standing ar s v t sc r (standing e v t sc r)).1 =
+      ap (λ d. d.1) (cond-true (leb v 7) (in_range s t (turn_open ar s v t (script_of e v))) _ (below v v_in)
+      ∙ cond-true (leb t 7) (turn_open ar s v t (script_of e v)) _ (below t t_in)
+      ∙ ap (turn_open ar s v t) script ∙ ap (turn_shadow ar s v t sc) here_now) in
+      let is_standing : standing e v t sc r ≡ cond (waits e v t sc r) Halted Ready = cond-false (eqb t v) (cond (leb (length sc) r.step) AtEnd Ready) (cond (waits e v t sc r) Halted Ready) (ne_eqb t v ne) in
       ⊎_elim
       (λ (w : waits e v t sc r ≡ true). w)
       (λ (w : waits e v t sc r ≡ false).
-      let stands : standing e v t sc r ≡ Ready = is-standing ∙ ap (λ b. cond b Halted Ready) w in
-      let answer : (turn_step s v t sc r (next ar sc s.pages r)).1 ≡ Took Waiting = ap (λ x. (turn_standing ar s v t sc r x).1) (sym stands) ∙ sym to-shadow ∙ h in
+      let stands : standing e v t sc r ≡ Ready = is_standing ∙ ap (λ b. cond b Halted Ready) w in
+      let answer : (turn_step s v t sc r (next ar sc s.pages r)).1 ≡ Took Waiting = ap (λ x. (turn_standing ar s v t sc r x).1) (sym stands) ∙ sym to_shadow ∙ h in
       absurd (never s v t sc r (next ar sc s.pages r) answer))
       (cases_Bool (waits e v t sc r))
     where
@@ -147,36 +147,36 @@ module _ (ar : Meaning) where
   -- a commit under allowance 8 rescues what it spoils
   rescued : (s : State) (t : ℕ) (last : Stand) → Good ar s → s.engine.allowance ≡ 8 → shadow s.engine t t ≡ Some last
       → Rescued ar s t last.own (record { engine = committed s.engine t last.own; pages = put_all last.own s.pages })
-  rescued s t last g k t-lead v sc lead first ne script v-lead found before =
+  rescued s t last g k t_lead v sc lead first ne script v_lead found before =
       let e = s.engine in
       let own = last.own in
-      let t-in = (shadow-within e g.sized t t last t-lead).0 in
-      let v-in = (shadow-within e g.sized v v lead v-lead).0 in
-      let t-ne : t ≢ v = λ z. ne (sym z) in
-      let f = first_of ar sc s.pages (suc (length sc)) (before_read_of own sc) start first found in
-      let lead-reached = (g.rows v).reached sc v lead script v-lead in
-      let ahead = reached_later ar sc s.pages f.leads lead-reached (omega arith) in
-      let lead-read : has_read_any lead.reads own ≡ true = past_read ar sc s.pages own ahead f.passes before in
-      let t-writes : lead_writes e t ≡ own = ap own_of t-lead in
-      let r = some_is (shadow e v t) ((g.rows v).covered k t lead t-ne v-lead refl (ap (has_read_any lead.reads) t-writes ∙ lead-read)) in
-      let clean : has_read_any r.0.reads own ≡ false = sym (ap (has_read_any r.0.reads) t-writes) ∙ (g.rows v).apart t r.0 t-ne r.1 refl in
-      let r-reached = (g.rows v).reached sc t r.0 script r.1 in (
+      let t_in = (shadow-within e g.sized t t last t_lead).0 in
+      let v_in = (shadow-within e g.sized v v lead v_lead).0 in
+      let t_ne : t ≢ v = λ z. ne (sym z) in
+      let f = first_reached ar sc s.pages (suc (length sc)) (before_read_of own sc) start first found in
+      let lead_reached = (g.rows v).reached sc v lead script v_lead in
+      let ahead = reached_later ar sc s.pages f.leads lead_reached (omega arith) in
+      let lead_read : has_read_any lead.reads own ≡ true = past_read ar sc s.pages own ahead f.passes before in
+      let t_writes : lead_writes e t ≡ own = ap own_of t_lead in
+      let r = some_is (shadow e v t) ((g.rows v).covered k t lead t_ne v_lead refl (ap (has_read_any lead.reads) t_writes ∙ lead_read)) in
+      let clean : has_read_any r.0.reads own ≡ false = sym (ap (has_read_any r.0.reads) t_writes) ∙ (g.rows v).apart t r.0 t_ne r.1 refl in
+      let r_reached = (g.rows v).reached sc t r.0 script r.1 in (
         r.0,
         r.1,
         λ waiting.
-            let w = waiting_waits s v t sc r.0 v-in t-in t-ne script r.1 waiting in
+            let w = waiting_waits s v t sc r.0 v_in t_in t_ne script r.1 waiting in
             let at_first : r.0 ≡ first = ⊎_elim
             (λ (level : leb (place_of (shadow e v v)) r.0.step ≡ true).
             -- level with the lead it would be the lead, which has read what it has not
-            let high : lead.step ≤ r.0.step = leb-true lead.step r.0.step (ap (λ o. leb (place_of o) r.0.step) (sym v-lead) ∙ level) in
-            let low = (g.rows v).behind t r.0 lead r.1 v-lead in
-            let same : r.0 ≡ lead = reached_same ar sc s.pages r-reached lead-reached (omega arith) in
-            absurd (both_ways (has_read_any r.0.reads own) clean (ap (λ x. has_read_any x.reads own) same ∙ lead-read)))
+            let high : lead.step ≤ r.0.step = leb-true lead.step r.0.step (ap (λ o. leb (place_of o) r.0.step) (sym v_lead) ∙ level) in
+            let low = (g.rows v).behind t r.0 lead r.1 v_lead in
+            let same : r.0 ≡ lead = reached_same ar sc s.pages r_reached lead_reached (omega arith) in
+            absurd (both_ways (has_read_any r.0.reads own) clean (ap (λ x. has_read_any x.reads own) same ∙ lead_read)))
             (λ (blocked : on_list (lead_writes e t) (store_read (slice_get sc r.0.step) r.0) ≡ true).
-            let at_read : before_read_of own sc r.0 ≡ true = ap (λ es. on_list es (store_read (slice_get sc r.0.step) r.0)) (sym t-writes) ∙ blocked in
-            reached_same ar sc s.pages r-reached f.leads (level sc r.0 first r-reached f clean at_read))
+            let at_read : before_read_of own sc r.0 ≡ true = ap (λ es. on_list es (store_read (slice_get sc r.0.step) r.0)) (sym t_writes) ∙ blocked in
+            reached_same ar sc s.pages r_reached f.leads (level sc r.0 first r_reached f clean at_read))
             (or_cases (leb (place_of (shadow e v v)) r.0.step) (on_list (lead_writes e t) (store_read (slice_get sc r.0.step) r.0)) w) in
-            let n = new_lead ar s.pages e g t t-in own v sc lead ne script v-lead in
+            let n = new_lead ar s.pages e g t t_in own v sc lead ne script v_lead in
             let high : first.step ≤ n.0.step = subst (λ x. x.step ≤ n.0.step) at_first (n.1.most t r.0 r.1 clean) in
             let low : n.0.step ≤ first.step = not_past sc n.0 first n.1.reached f.leads f.passes n.1.unread in
             n.1.leads ∙ ap Some (reached_same ar sc s.pages n.1.reached f.leads (omega arith)),

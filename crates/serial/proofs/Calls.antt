@@ -92,7 +92,7 @@ module _ (ar : Meaning) where
       (λ e. g)
 
   -- begin
-  module _ (pages : List ℕ) (e : Engine) (i : Inv ar pages no_exempt e) (t : ℕ) (t-in : t < 8) (free : script_of e t ≡ None) (sc : Steps) (ends : EndsAtEnd sc) where
+  module _ (pages : List ℕ) (e : Engine) (i : Inv ar pages no_exempt e) (t : ℕ) (t_in : t < 8) (free : script_of e t ≡ None) (sc : Steps) (ends : EndsAtEnd sc) where
     abbrev entered : Engine
     entered = record { allowance = e.allowance; scripts = set e.scripts t (Some sc); shadows = e.shadows }
 
@@ -106,13 +106,13 @@ module _ (ar : Meaning) where
     script_other v ne = get_or-set_other e.scripts t v (Some sc) None ne
 
     lead_now : shadow (begun e t sc) t t ≡ Some start
-    lead_now = shadow_put entered entered-sized t t t-in t-in (Some start)
+    lead_now = shadow_put entered entered-sized t t t_in t_in (Some start)
 
     place_now : (u : ℕ) → u ≢ t → shadow (begun e t sc) t u ≡ None
-    place_now u ne = shadow_put_place entered entered-sized t t t-in t-in (Some start) u ne ∙ (i.rows t).bare free u
+    place_now u ne = shadow_put_place entered entered-sized t t t_in t_in (Some start) u ne ∙ (i.rows t).bare free u
 
     row_same : (v u : ℕ) → v ≢ t → shadow (begun e t sc) v u ≡ shadow e v u
-    row_same v u ne = shadow_put_row entered entered-sized t t t-in t-in (Some start) v u ne
+    row_same v u ne = shadow_put_row entered entered-sized t t t_in t_in (Some start) v u ne
 
     writes_same : (u : ℕ) → lead_writes (begun e t sc) u ≡ lead_writes e u
     writes_same u =
@@ -130,7 +130,7 @@ module _ (ar : Meaning) where
 
     begun-own : RowInv ar pages no_exempt (begun e t sc) t
     begun-own = record {
-      few = subst (λ cs. count cs ≤ e.allowance) (sym (row_put entered entered-sized t t t-in t-in (Some start))) (let a = count_add (row e t) t start in let b = count_none (row e t) ((i.rows t).bare free) in omega (arith, i.allowed.0));
+      few = subst (λ cs. count cs ≤ e.allowance) (sym (row_put entered entered-sized t t t_in t_in (Some start))) (let a = count_add (row e t) t start in let b = count_none (row e t) ((i.rows t).bare free) in omega (arith, i.allowed.0));
       bare = λ h u. none_is_some sc (sym h ∙ script_now);
       led = λ z h. ap is_some lead_now;
       ends = λ z h. let same : sc ≡ z = let m : Some sc ≡ Some z = sym script_now ∙ h in cc in subst EndsAtEnd same ends;
@@ -145,7 +145,7 @@ module _ (ar : Meaning) where
     begun_other v ne =
         let r = i.rows v in
         record {
-          few = subst (λ cs. count cs ≤ e.allowance) (sym (row_put_other entered entered-sized t t t-in t-in (Some start) v ne)) r.few;
+          few = subst (λ cs. count cs ≤ e.allowance) (sym (row_put_other entered entered-sized t t t_in t_in (Some start) v ne)) r.few;
           bare = λ h u. row_same v u ne ∙ r.bare (sym (script_other v ne) ∙ h) u;
           led = λ z h. ap is_some (row_same v v ne) ∙ r.led z (sym (script_other v ne) ∙ h);
           ends = λ z h. r.ends z (sym (script_other v ne) ∙ h);
@@ -158,36 +158,36 @@ module _ (ar : Meaning) where
 
     pub begun_inv : Inv ar pages no_exempt (begun e t sc)
     begun_inv = record {
-      sized = sized_put entered entered-sized t t t-in t-in (Some start);
+      sized = sized_put entered entered-sized t t t_in t_in (Some start);
       allowed = i.allowed;
       rows = λ v. ⊎_elim (λ (q : v ≡ t). subst (RowInv ar pages no_exempt (begun e t sc)) (sym q) begun-own) (λ (q : v ≡ t → ⊥). begun_other v q) (cases_eq v t);
     }
 
   begin_good : (s : State) (t : ℕ) → Good s → t < 8 → script_of s.engine t ≡ None → (bytes : List ℕ) (r : Result Steps ScriptFault) → decoded bytes ≡ r → Good (begin_with s t r).0
-  begin_good s t g t-in free bytes (Err f) h = g
-  begin_good s t g t-in free bytes (Ok sc) h = begun_inv s.pages s.engine g t t-in free sc (subst (Decodes bytes) h (decodes bytes)).3
+  begin_good s t g t_in free bytes (Err f) h = g
+  begin_good s t g t_in free bytes (Ok sc) h = begun_inv s.pages s.engine g t t_in free sc (subst (Decodes bytes) h (decodes bytes)).3
 
   begins_good : (s : State) (t : ℕ) (bytes : List ℕ) → Good s → Good (begins s t bytes).0
   begins_good s t bytes g =
-      kept_range s t _ g (λ t-in.
+      kept_range s t _ g (λ t_in.
       cond_both (is_open s.engine t) _ (begin_with s t (decoded bytes)) (λ d. Good d.0)
       (λ e. g)
-      (λ e. begin_good s t g t-in (none_is (script_of s.engine t) e) bytes (decoded bytes) refl))
+      (λ e. begin_good s t g t_in (none_is (script_of s.engine t) e) bytes (decoded bytes) refl))
 
   -- turn
   turn_step_good : (s : State) (t u : ℕ) (sc : Steps) (at : Stand) → Good s → script_of s.engine t ≡ Some sc → shadow s.engine t u ≡ Some at → ((u ≡ t → ⊥) → waits s.engine t u sc at ≡ false) → (o : Option Taken) → next ar sc s.pages at ≡ o → Good (turn_step s t u sc at o).0
-  turn_step_good s t u sc at g script here-now free None h = g
-  turn_step_good s t u sc at g script here-now free (Some (off_pages p)) h = g
-  turn_step_good s t u sc at g script here-now free (Some (moved to)) h =
+  turn_step_good s t u sc at g script here_now free None h = g
+  turn_step_good s t u sc at g script here_now free (Some (off_pages p)) h = g
+  turn_step_good s t u sc at g script here_now free (Some (moved to)) h =
       ⊎_elim
       (λ (q : eqb u t ≡ true).
       let same = eqb-true u t q in
       subst (Inv ar s.pages no_exempt) (sym (cond-true (eqb u t) (lead_moves s.engine t sc at to) (with_shadow s.engine t u (Some to)) q))
-      (lead_moves_inv ar s.pages s.engine g t sc at to script (ap (shadow s.engine t) (sym same) ∙ here-now) h))
+      (lead_moves_inv ar s.pages s.engine g t sc at to script (ap (shadow s.engine t) (sym same) ∙ here_now) h))
       (λ (q : eqb u t ≡ false).
       let ne = eqb-false u t q in
       subst (Inv ar s.pages no_exempt) (sym (cond-false (eqb u t) (lead_moves s.engine t sc at to) (with_shadow s.engine t u (Some to)) q))
-      (shadow_moves_inv ar s.pages s.engine g t u sc at to ne script here-now (free ne) h))
+      (shadow_moves_inv ar s.pages s.engine g t u sc at to ne script here_now (free ne) h))
       (cases_Bool (eqb u t))
 
   halts : (b : Bool) (x y : Standing) → cond b Halted Ready ≡ Ready → b ≡ false
@@ -203,9 +203,9 @@ module _ (ar : Meaning) where
       other u t ne = ⊎_elim (λ (q : eqb u t ≡ true). absurd (ne (eqb-true u t q))) (λ q. q) (cases_Bool (eqb u t))
 
   turn_standing_good : (s : State) (t u : ℕ) (sc : Steps) (at : Stand) → Good s → script_of s.engine t ≡ Some sc → shadow s.engine t u ≡ Some at → (o : Standing) → standing s.engine t u sc at ≡ o → Good (turn_standing ar s t u sc at o).0
-  turn_standing_good s t u sc at g script here-now AtEnd h = g
-  turn_standing_good s t u sc at g script here-now Halted h = g
-  turn_standing_good s t u sc at g script here-now Ready h = turn_step_good s t u sc at g script here-now (ready_free s.engine t u sc at h) (next ar sc s.pages at) refl
+  turn_standing_good s t u sc at g script here_now AtEnd h = g
+  turn_standing_good s t u sc at g script here_now Halted h = g
+  turn_standing_good s t u sc at g script here_now Ready h = turn_step_good s t u sc at g script here_now (ready_free s.engine t u sc at h) (next ar sc s.pages at) refl
 
   turn_shadow_good : (s : State) (t u : ℕ) (sc : Steps) → Good s → script_of s.engine t ≡ Some sc → (o : Option Stand) → shadow s.engine t u ≡ o → Good (turn_shadow ar s t u sc o).0
   turn_shadow_good s t u sc g script None h = g
@@ -220,25 +220,25 @@ module _ (ar : Meaning) where
 
   -- commit
   commit_puts_good : (s : State) (t : ℕ) (lead : Stand) → Good s → t < 8 → (o : Option ℕ) → Good (commit_puts s t lead o).0
-  commit_puts_good s t lead g t-in (Some p) = g
-  commit_puts_good s t lead g t-in None = committed_inv ar s.pages s.engine g t t-in lead.own
+  commit_puts_good s t lead g t_in (Some p) = g
+  commit_puts_good s t lead g t_in None = committed_inv ar s.pages s.engine g t t_in lead.own
 
   commit_open_good : (s : State) (t : ℕ) → Good s → t < 8 → (o : Option Steps) → Good (commit_open s t o).0
-  commit_open_good s t g t-in None = g
-  commit_open_good s t g t-in (Some sc) =
+  commit_open_good s t g t_in None = g
+  commit_open_good s t g t_in (Some sc) =
       let lead = unwrap_or (shadow s.engine t t) start in
-      cond_both {A = Done} (leb (length sc) lead.step) _ _ (λ d. Good d.0) (λ e. commit_puts_good s t lead g t-in (first_off (length s.pages) lead.own)) (λ e. g)
+      cond_both {A = Done} (leb (length sc) lead.step) _ _ (λ d. Good d.0) (λ e. commit_puts_good s t lead g t_in (first_off (length s.pages) lead.own)) (λ e. g)
 
   commits_good : (s : State) (t : ℕ) → Good s → Good (commits s t).0
-  commits_good s t g = kept_range s t _ g (λ t-in. commit_open_good s t g t-in (script_of s.engine t))
+  commits_good s t g = kept_range s t _ g (λ t_in. commit_open_good s t g t_in (script_of s.engine t))
 
   -- abort
   abort_open_good : (s : State) (t : ℕ) → Good s → t < 8 → (o : Option Steps) → Good (abort_open s t o).0
-  abort_open_good s t g t-in None = g
-  abort_open_good s t g t-in (Some sc) = subst (Inv ar s.pages no_exempt) (abort_is s.engine t) (committed_inv ar s.pages s.engine g t t-in [])
+  abort_open_good s t g t_in None = g
+  abort_open_good s t g t_in (Some sc) = subst (Inv ar s.pages no_exempt) (abort_is s.engine t) (committed_inv ar s.pages s.engine g t t_in [])
 
   aborts_good : (s : State) (t : ℕ) → Good s → Good (aborts s t).0
-  aborts_good s t g = kept_range s t _ g (λ t-in. abort_open_good s t g t-in (script_of s.engine t))
+  aborts_good s t g = kept_range s t _ g (λ t_in. abort_open_good s t g t_in (script_of s.engine t))
 
   pub does_good : (c : Call) (s : State) → Good s → Good (does ar c s).0
   does_good (set_allowance k) s g = allows_good s k g

@@ -70,7 +70,7 @@ module _ (own : List WriteEntry) where
       (λ e. remaining_at own r u)
 
 -- what stands in the table after t has committed this list
-module _ (e : Engine) (z : Sized e) (t : ℕ) (t-in : t < 8) (own : List WriteEntry) where
+module _ (e : Engine) (z : Sized e) (t : ℕ) (t_in : t < 8) (own : List WriteEntry) where
   abbrev gone_rows : List Row
   gone_rows = map (cleared t) (renew own 0 e.shadows)
 
@@ -145,7 +145,7 @@ module _ (e : Engine) (z : Sized e) (t : ℕ) (t-in : t < 8) (own : List WriteEn
 
 -- the leading shadow of a slot after a commit: it has read nothing that was put, is reached and no further than the one
 -- before, and no shadow that remains is past it
-module _ (ar : Meaning) (pages : List ℕ) (e : Engine) (i : Inv ar pages no_exempt e) (t : ℕ) (t-in : t < 8) (own : List WriteEntry) where
+module _ (ar : Meaning) (pages : List ℕ) (e : Engine) (i : Inv ar pages no_exempt e) (t : ℕ) (t_in : t < 8) (own : List WriteEntry) where
   pub record NewLead (v : ℕ) (sc : Steps) (l x : Stand) : Type 0 where
     pub leads : shadow (committed e t own) v v ≡ Some x
     pub unread : has_read_any x.reads own ≡ false
@@ -160,7 +160,7 @@ module _ (ar : Meaning) (pages : List ℕ) (e : Engine) (i : Inv ar pages no_exe
       (λ (unread : has_read_any l.reads own ≡ false). (
         l,
         record {
-          leads = lead_stays e i.sized t t-in own v l ne h unread;
+          leads = lead_stays e i.sized t t_in own v l ne h unread;
           unread = unread;
           reached = (i.rows v).reached sc v l script h;
           behind = omega arith;
@@ -176,7 +176,7 @@ module _ (ar : Meaning) (pages : List ℕ) (e : Engine) (i : Inv ar pages no_exe
       spoiled read None q = (
         start,
         record {
-          leads = lead_renewed e i.sized t t-in own v l ne h read ∙ ap (λ o. Some (unwrap_or o start)) q;
+          leads = lead_renewed e i.sized t t_in own v l ne h read ∙ ap (λ o. Some (unwrap_or o start)) q;
           unread = refl;
           reached = here;
           behind = omega arith;
@@ -188,7 +188,7 @@ module _ (ar : Meaning) (pages : List ℕ) (e : Engine) (i : Inv ar pages no_exe
           let was = kept_was own (shadow e v a.0) x (sym (remaining_at own (row e v) a.0) ∙ a.1) in (
             x,
             record {
-              leads = lead_renewed e i.sized t t-in own v l ne h read ∙ ap (λ o. Some (unwrap_or o start)) q;
+              leads = lead_renewed e i.sized t t_in own v l ne h read ∙ ap (λ o. Some (unwrap_or o start)) q;
               unread = was.1;
               reached = (i.rows v).reached sc a.0 x script was.0;
               behind = (i.rows v).behind a.0 x l was.0 h;
@@ -214,9 +214,9 @@ module _ (ar : Meaning) (pages : List ℕ) (e : Engine) (i : Inv ar pages no_exe
   still : (v : ℕ) (sc : Steps) → script_of e' v ≡ Some sc → Still v sc
   still v sc h =
       ⊎_elim
-      (λ (q : v ≡ t). none_is_some sc (sym (script-there e i.sized t t-in own) ∙ ap (script_of e') (sym q) ∙ h))
+      (λ (q : v ≡ t). none_is_some sc (sym (script-there e i.sized t t_in own) ∙ ap (script_of e') (sym q) ∙ h))
       (λ (q : v ≡ t → ⊥).
-      let was : script_of e v ≡ Some sc = sym (script_other e i.sized t t-in own v q) ∙ h in
+      let was : script_of e v ≡ Some sc = sym (script_other e i.sized t t_in own v q) ∙ h in
       let l = some_is (shadow e v v) ((i.rows v).led sc was) in
       let n = new_lead v sc l.0 q was l.1 in
       record { ne = q; script = was; l = l.0; lead = l.1; x = n.0; new = n.1 })
@@ -226,8 +226,8 @@ module _ (ar : Meaning) (pages : List ℕ) (e : Engine) (i : Inv ar pages no_exe
   old_shadow : (v u : ℕ) (s : Stand) → v ≢ t → u ≢ v → shadow e' v u ≡ Some s → (u ≢ t) × (shadow e v u ≡ Some s) × (has_read_any s.reads own ≡ false)
   old_shadow v u s ne d h =
       ⊎_elim
-      (λ (q : u ≡ t). none_is_some s (sym (none_for e i.sized t t-in own v ne) ∙ ap (shadow e' v) (sym q) ∙ h))
-      (λ (q : u ≡ t → ⊥). let w = kept_was own (shadow e v u) s (sym (others_kept e i.sized t t-in own v u ne q d) ∙ h) in (q, w.0, w.1))
+      (λ (q : u ≡ t). none_is_some s (sym (none_for e i.sized t t_in own v ne) ∙ ap (shadow e' v) (sym q) ∙ h))
+      (λ (q : u ≡ t → ⊥). let w = kept_was own (shadow e v u) s (sym (others_kept e i.sized t t_in own v u ne q d) ∙ h) in (q, w.0, w.1))
       (cases_eq u t)
 
   -- what a leading shadow has written after the commit, it or the one before had written before
@@ -235,18 +235,18 @@ module _ (ar : Meaning) (pages : List ℕ) (e : Engine) (i : Inv ar pages no_exe
   writes_shrink u q ne h = by (shadow e u u) refl
     where
       by : (o : Option Stand) → shadow e u u ≡ o → has_written (lead_writes e u) q ≡ true
-      by None k = absurd (true≢false (sym h ∙ ap (λ o. has_written (own_of o) q) (lead_none e i.sized t t-in own u ne k)))
+      by None k = absurd (true≢false (sym h ∙ ap (λ o. has_written (own_of o) q) (lead_none e i.sized t t_in own u ne k)))
       by (Some l) k =
-          let open-u = (i.rows u).for_open u l k in
-          let sc = some_is (script_of e u) open-u in
+          let open_u = (i.rows u).for_open u l k in
+          let sc = some_is (script_of e u) open_u in
           let n = new_lead u sc.0 l ne sc.1 k in
-          let x-own : has_written n.0.own q ≡ true = sym (ap (λ o. has_written (own_of o) q) n.1.leads) ∙ h in
+          let x_own : has_written n.0.own q ≡ true = sym (ap (λ o. has_written (own_of o) q) n.1.leads) ∙ h in
           let later = reached_later ar sc.0 pages n.1.reached ((i.rows u).reached sc.0 u l sc.1 k) n.1.behind in
-          ap (λ o. has_written (own_of o) q) k ∙ own_grows ar sc.0 pages later q x-own
+          ap (λ o. has_written (own_of o) q) k ∙ own_grows ar sc.0 pages later q x_own
 
   -- what t has written counts for nothing once t is closed
   no_writes : lead_writes e' t ≡ []
-  no_writes = ap own_of (none_of e i.sized t t-in own t)
+  no_writes = ap own_of (none_of e i.sized t t_in own t)
 
   frame : (sc : Steps) (s : Stand) → Leads ar sc pages start s → has_read_any s.reads own ≡ false → Leads ar sc (put_all own pages) start s
   frame sc s l unread = leads-frame ar sc pages (put_all own pages) own (length-put_all own pages) (λ p h. put_all_other own pages p h) l unread
@@ -256,42 +256,42 @@ module _ (ar : Meaning) (pages : List ℕ) (e : Engine) (i : Inv ar pages no_exe
       let ne = k.ne in
       let r = i.rows v in
       let n = k.new in
-      let script_now : script_of e' v ≡ Some sc = script_other e i.sized t t-in own v ne ∙ k.script in
-      let is-new : (u : ℕ) (s : Stand) → u ≡ v → shadow e' v u ≡ Some s → k.x ≡ s = λ u s q h. let m : Some k.x ≡ Some s = sym n.leads ∙ ap (shadow e' v) (sym q) ∙ h in cc in
-      let this-script : (z : Steps) → script_of e' v ≡ Some z → sc ≡ z = λ z h. let m : Some sc ≡ Some z = sym script_now ∙ h in cc in
+      let script_now : script_of e' v ≡ Some sc = script_other e i.sized t t_in own v ne ∙ k.script in
+      let is_new : (u : ℕ) (s : Stand) → u ≡ v → shadow e' v u ≡ Some s → k.x ≡ s = λ u s q h. let m : Some k.x ≡ Some s = sym n.leads ∙ ap (shadow e' v) (sym q) ∙ h in cc in
+      let this_script : (z : Steps) → script_of e' v ≡ Some z → sc ≡ z = λ z h. let m : Some sc ≡ Some z = sym script_now ∙ h in cc in
       record {
-        few = let a = committed-count e i.sized t t-in own v in let b = r.few in omega arith;
+        few = let a = committed-count e i.sized t t_in own v in let b = r.few in omega arith;
         bare = λ h u. none_is_some sc (sym h ∙ script_now);
         led = λ z h. ap is_some n.leads;
-        ends = λ z h. r.ends z (sym (script_other e i.sized t t-in own v ne) ∙ h);
+        ends = λ z h. r.ends z (sym (script_other e i.sized t t_in own v ne) ∙ h);
         for_open = λ u s h. ⊎_elim
             (λ (q : u ≡ v). ap (is_open e') q ∙ ap is_some script_now)
-            (λ (q : u ≡ v → ⊥). let o = old_shadow v u s ne q h in ap is_some (script_other e i.sized t t-in own u o.0) ∙ r.for_open u s o.1)
+            (λ (q : u ≡ v → ⊥). let o = old_shadow v u s ne q h in ap is_some (script_other e i.sized t t_in own u o.0) ∙ r.for_open u s o.1)
             (cases_eq u v);
-        reached = λ z u s h q. subst (λ y. Leads ar y (put_all own pages) start s) (this-script z h) (⊎_elim
-            (λ (d : u ≡ v). subst (Leads ar sc (put_all own pages) start) (is-new u s d q) (frame sc k.x n.reached n.unread))
+        reached = λ z u s h q. subst (λ y. Leads ar y (put_all own pages) start s) (this_script z h) (⊎_elim
+            (λ (d : u ≡ v). subst (Leads ar sc (put_all own pages) start) (is_new u s d q) (frame sc k.x n.reached n.unread))
             (λ (d : u ≡ v → ⊥). let o = old_shadow v u s ne d q in frame sc s (r.reached sc u s k.script o.1) o.2)
             (cases_eq u v));
         behind = λ u s a h q.
-            let same : k.x ≡ a = is-new v a refl q in
+            let same : k.x ≡ a = is_new v a refl q in
             subst (λ y. s.step ≤ y.step) same (⊎_elim
-            (λ (d : u ≡ v). let w : k.x.step ≡ s.step = ap (λ y. y.step) (is-new u s d h) in omega arith)
+            (λ (d : u ≡ v). let w : k.x.step ≡ s.step = ap (λ y. y.step) (is_new u s d h) in omega arith)
             (λ (d : u ≡ v → ⊥). let o = old_shadow v u s ne d h in n.most u s o.1 o.2)
             (cases_eq u v));
         apart = λ u s d h q. let o = old_shadow v u s ne d h in
             read_any_shrinks s.reads (lead_writes e' u) (lead_writes e u) (λ p w. writes_shrink u p o.0 w) (r.apart u s d o.1 refl);
         covered = λ m u a d h q c.
-            let same : k.x ≡ a = is-new v a refl h in
-            let x-reads : has_read_any k.x.reads (lead_writes e' u) ≡ true = ap (λ y. has_read_any y.reads (lead_writes e' u)) same ∙ c in
-            let u-ne : u ≢ t = λ w. true≢false (sym x-reads ∙ ap (λ y. has_read_any k.x.reads (lead_writes e' y)) w ∙ ap (has_read_any k.x.reads) no_writes ∙ read_any_nil k.x.reads) in
-            let x-reads-old : has_read_any k.x.reads (lead_writes e u) ≡ true = read_any_grows k.x.reads (lead_writes e' u) (lead_writes e u) (λ p w. writes_shrink u p u-ne w) x-reads in
-            let lead-reached = r.reached sc v k.l k.script k.lead in
-            let old = some_is (shadow e v u) (r.covered m u k.l d k.lead refl (read_lasts ar sc pages (lead_writes e u) (reached_later ar sc pages n.reached lead-reached n.behind) x-reads-old)) in
-            let s-reached = r.reached sc u old.0 k.script old.1 in
-            ap is_some (others_kept e i.sized t t-in own v u ne u-ne d ∙ ap (kept own) old.1) ∙ ⊎_elim
+            let same : k.x ≡ a = is_new v a refl h in
+            let x_reads : has_read_any k.x.reads (lead_writes e' u) ≡ true = ap (λ y. has_read_any y.reads (lead_writes e' u)) same ∙ c in
+            let u_ne : u ≢ t = λ w. true≢false (sym x_reads ∙ ap (λ y. has_read_any k.x.reads (lead_writes e' y)) w ∙ ap (has_read_any k.x.reads) no_writes ∙ read_any_nil k.x.reads) in
+            let x_reads_old : has_read_any k.x.reads (lead_writes e u) ≡ true = read_any_grows k.x.reads (lead_writes e' u) (lead_writes e u) (λ p w. writes_shrink u p u_ne w) x_reads in
+            let lead_reached = r.reached sc v k.l k.script k.lead in
+            let old = some_is (shadow e v u) (r.covered m u k.l d k.lead refl (read_lasts ar sc pages (lead_writes e u) (reached_later ar sc pages n.reached lead_reached n.behind) x_reads_old)) in
+            let s_reached = r.reached sc u old.0 k.script old.1 in
+            ap is_some (others_kept e i.sized t t_in own v u ne u_ne d ∙ ap (kept own) old.1) ∙ ⊎_elim
             (λ (read : has_read_any old.0.reads own ≡ true).
             -- dropped, so the new lead is before it and cannot have read what it has not
-            absurd (both_ways (has_read_any old.0.reads (lead_writes e u)) (r.apart u old.0 d old.1 refl) (read_lasts ar sc pages (lead_writes e u) (earlier k.x old.0 sc n.reached s-reached n.unread read) x-reads-old)))
+            absurd (both_ways (has_read_any old.0.reads (lead_writes e u)) (r.apart u old.0 d old.1 refl) (read_lasts ar sc pages (lead_writes e u) (earlier k.x old.0 sc n.reached s_reached n.unread read) x_reads_old)))
             (λ (unread : has_read_any old.0.reads own ≡ false). ap is_some (kept-unread own old.0 unread))
             (cases_Bool (has_read_any old.0.reads own));
       }
@@ -306,19 +306,19 @@ module _ (ar : Meaning) (pages : List ℕ) (e : Engine) (i : Inv ar pages no_exe
   closed_now : (v : ℕ) → script_of e' v ≡ None → RowInv ar (put_all own pages) no_exempt e' v
   closed_now v h =
       let bare : (u : ℕ) → shadow e' v u ≡ None = λ u. ⊎_elim
-      (λ (q : v ≡ t). ap (λ w. shadow e' w u) q ∙ none_of e i.sized t t-in own u)
+      (λ (q : v ≡ t). ap (λ w. shadow e' w u) q ∙ none_of e i.sized t t_in own u)
       (λ (q : v ≡ t → ⊥).
-      let was : script_of e v ≡ None = sym (script_other e i.sized t t-in own v q) ∙ h in
+      let was : script_of e v ≡ None = sym (script_other e i.sized t t_in own v q) ∙ h in
       ⊎_elim
-      (λ (d : u ≡ v). ap (shadow e' v) d ∙ lead_none e i.sized t t-in own v q ((i.rows v).bare was v))
+      (λ (d : u ≡ v). ap (shadow e' v) d ∙ lead_none e i.sized t t_in own v q ((i.rows v).bare was v))
       (λ (d : u ≡ v → ⊥). ⊎_elim
-      (λ (w : u ≡ t). ap (shadow e' v) w ∙ none_for e i.sized t t-in own v q)
-      (λ (w : u ≡ t → ⊥). others_kept e i.sized t t-in own v u q w d ∙ ap (kept own) ((i.rows v).bare was u))
+      (λ (w : u ≡ t). ap (shadow e' v) w ∙ none_for e i.sized t t_in own v q)
+      (λ (w : u ≡ t → ⊥). others_kept e i.sized t t_in own v u q w d ∙ ap (kept own) ((i.rows v).bare was u))
       (cases_eq u t))
       (cases_eq u v))
       (cases_eq v t) in
       record {
-        few = let a = committed-count e i.sized t t-in own v in let b = (i.rows v).few in omega arith;
+        few = let a = committed-count e i.sized t t_in own v in let b = (i.rows v).few in omega arith;
         bare = λ _ u. bare u;
         led = λ z k. none_is_some z (sym h ∙ k);
         ends = λ z k. none_is_some z (sym h ∙ k);
@@ -331,7 +331,7 @@ module _ (ar : Meaning) (pages : List ℕ) (e : Engine) (i : Inv ar pages no_exe
 
   pub committed_inv : Inv ar (put_all own pages) no_exempt (committed e t own)
   committed_inv = record {
-    sized = committed-sized e i.sized t t-in own;
+    sized = committed-sized e i.sized t t_in own;
     allowed = i.allowed;
     rows = λ v. ⊎_elim (λ (o : (sc : Steps) × (script_of e' v ≡ Some sc)). open_row v o.0 (still v o.0 o.1)) (λ o. closed_now v o) (some_or_none (script_of e' v));
   }

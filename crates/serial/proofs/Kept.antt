@@ -63,40 +63,40 @@ module _ (ar : Meaning) (pages : List ℕ) where
     pub unread : has_read_any s.reads (lead_writes e u) ≡ false
     pub room : count (set (row e v) u (Some s)) ≤ e.allowance
 
-  module _ (x : Exempt) (e : Engine) (i : Inv x e) (v u : ℕ) (ne : u ≢ v) (v-in : v < 8) (u-in : u < 8) where
+  module _ (x : Exempt) (e : Engine) (i : Inv x e) (v u : ℕ) (ne : u ≢ v) (v_in : v < 8) (u_in : u < 8) where
     -- a fork leaves every leading shadow where it is
     pub fork_leads : (o : Option Stand) (w : ℕ) → shadow (with_shadow e v u o) w w ≡ shadow e w w
     fork_leads o w =
         ⊎_elim
-        (λ (q : w ≡ v). let apart : w ≢ u = λ z. ne (sym z ∙ q) in subst (λ m. shadow (with_shadow e v u o) m w ≡ shadow e m w) (sym q) (shadow_put_place e i.sized v u v-in u-in o w apart))
-        (λ (q : w ≡ v → ⊥). shadow_put_row e i.sized v u v-in u-in o w w q)
+        (λ (q : w ≡ v). let apart : w ≢ u = λ z. ne (sym z ∙ q) in subst (λ m. shadow (with_shadow e v u o) m w ≡ shadow e m w) (sym q) (shadow_put_place e i.sized v u v_in u_in o w apart))
+        (λ (q : w ≡ v → ⊥). shadow_put_row e i.sized v u v_in u_in o w w q)
         (cases_eq w v)
 
     -- the forked row; reads against u are exempt no more
     fork_row : (x' : Exempt) → ((w : ℕ) (rs : List ReadEntry) → w ≢ u → x' w rs ≡ false → x w rs ≡ false) → (s : Stand) → is_open e v ≡ true → is_open e u ≡ true → Fork e v u s → RowInv x' (with_shadow e v u (Some s)) v
-    fork_row x' weaker s v-open u-open f =
+    fork_row x' weaker s v_open u_open f =
         let e' = with_shadow e v u (Some s) in
         let r = i.rows v in
-        let here-now : shadow e' v u ≡ Some s = shadow_put e i.sized v u v-in u-in (Some s) in
-        let other : (w : ℕ) → w ≢ u → shadow e' v w ≡ shadow e v w = shadow_put_place e i.sized v u v-in u-in (Some s) in
+        let here_now : shadow e' v u ≡ Some s = shadow_put e i.sized v u v_in u_in (Some s) in
+        let other : (w : ℕ) → w ≢ u → shadow e' v w ≡ shadow e v w = shadow_put_place e i.sized v u v_in u_in (Some s) in
         let lead = fork_leads (Some s) in
         let writes : (w : ℕ) → lead_writes e' w ≡ lead_writes e w = λ w. ap own_of (lead w) in
         -- the forked shadow, or an old one
-        let is-fork : (w : ℕ) (y : Stand) → w ≡ u → shadow e' v w ≡ Some y → s ≡ y = λ w y q h. let z : Some s ≡ Some y = sym here-now ∙ ap (shadow e' v) (sym q) ∙ h in cc in
+        let is_fork : (w : ℕ) (y : Stand) → w ≡ u → shadow e' v w ≡ Some y → s ≡ y = λ w y q h. let z : Some s ≡ Some y = sym here_now ∙ ap (shadow e' v) (sym q) ∙ h in cc in
         record {
-          few = subst (λ cs. count cs ≤ e.allowance) (sym (row_put e i.sized v u v-in u-in (Some s))) f.room;
-          bare = λ h w. absurd (true≢false (sym v-open ∙ ap is_some h));
+          few = subst (λ cs. count cs ≤ e.allowance) (sym (row_put e i.sized v u v_in u_in (Some s))) f.room;
+          bare = λ h w. absurd (true≢false (sym v_open ∙ ap is_some h));
           led = λ z h. ap is_some (lead v) ∙ r.led z h;
           ends = r.ends;
-          for_open = λ w y h. ⊎_elim (λ (q : w ≡ u). ap (is_open e) q ∙ u-open) (λ (q : w ≡ u → ⊥). r.for_open w y (sym (other w q) ∙ h)) (cases_eq w u);
-          reached = λ z w y h k. ⊎_elim (λ (q : w ≡ u). subst (Leads ar z pages start) (is-fork w y q k) (f.reached z h)) (λ (q : w ≡ u → ⊥). r.reached z w y h (sym (other w q) ∙ k)) (cases_eq w u);
-          behind = λ w y l h k. ⊎_elim (λ (q : w ≡ u). subst (λ a. a.step ≤ l.step) (is-fork w y q h) (f.behind l (sym (lead v) ∙ k))) (λ (q : w ≡ u → ⊥). r.behind w y l (sym (other w q) ∙ h) (sym (lead v) ∙ k)) (cases_eq w u);
+          for_open = λ w y h. ⊎_elim (λ (q : w ≡ u). ap (is_open e) q ∙ u_open) (λ (q : w ≡ u → ⊥). r.for_open w y (sym (other w q) ∙ h)) (cases_eq w u);
+          reached = λ z w y h k. ⊎_elim (λ (q : w ≡ u). subst (Leads ar z pages start) (is_fork w y q k) (f.reached z h)) (λ (q : w ≡ u → ⊥). r.reached z w y h (sym (other w q) ∙ k)) (cases_eq w u);
+          behind = λ w y l h k. ⊎_elim (λ (q : w ≡ u). subst (λ a. a.step ≤ l.step) (is_fork w y q h) (f.behind l (sym (lead v) ∙ k))) (λ (q : w ≡ u → ⊥). r.behind w y l (sym (other w q) ∙ h) (sym (lead v) ∙ k)) (cases_eq w u);
           apart = λ w y d h k. ⊎_elim
-              (λ (q : w ≡ u). subst (λ a. has_read_any a.reads (lead_writes e' w) ≡ false) (is-fork w y q h) (ap (has_read_any s.reads) (writes w ∙ ap (lead_writes e) q) ∙ f.unread))
+              (λ (q : w ≡ u). subst (λ a. has_read_any a.reads (lead_writes e' w) ≡ false) (is_fork w y q h) (ap (has_read_any s.reads) (writes w ∙ ap (lead_writes e) q) ∙ f.unread))
               (λ (q : w ≡ u → ⊥). ap (has_read_any y.reads) (writes w) ∙ r.apart w y d (sym (other w q) ∙ h) (weaker w y.reads q k))
               (cases_eq w u);
           covered = λ m w l d h k c. ⊎_elim
-              (λ (q : w ≡ u). ap is_some (ap (shadow e' v) q ∙ here-now))
+              (λ (q : w ≡ u). ap is_some (ap (shadow e' v) q ∙ here_now))
               (λ (q : w ≡ u → ⊥). ap is_some (other w q) ∙ r.covered m w l d (sym (lead v) ∙ h) (weaker w l.reads q k) (sym (ap (has_read_any l.reads) (writes w)) ∙ c))
               (cases_eq w u);
         }
@@ -104,15 +104,15 @@ module _ (ar : Meaning) (pages : List ℕ) where
     -- the other rows stay
     fork_others : (s : Stand) (w : ℕ) → w ≢ v → RowInv x (with_shadow e v u (Some s)) w
     fork_others s w d =
-        row_like x x e (with_shadow e v u (Some s)) w refl refl (row_put_other e i.sized v u v-in u-in (Some s) w d) (λ y q. ap own_of (fork_leads (Some s) y)) (λ y rs h. h) (i.rows w)
+        row_like x x e (with_shadow e v u (Some s)) w refl refl (row_put_other e i.sized v u v_in u_in (Some s) w d) (λ y q. ap own_of (fork_leads (Some s) y)) (λ y rs h. h) (i.rows w)
 
     -- a fork keeps the invariant
     pub fork_inv : (s : Stand) → is_open e v ≡ true → is_open e u ≡ true → Fork e v u s → Inv x (with_shadow e v u (Some s))
-    fork_inv s v-open u-open f = record {
-      sized = sized_put e i.sized v u v-in u-in (Some s);
+    fork_inv s v_open u_open f = record {
+      sized = sized_put e i.sized v u v_in u_in (Some s);
       allowed = i.allowed;
       rows = λ w. ⊎_elim
-          (λ (q : w ≡ v). subst (RowInv x (with_shadow e v u (Some s))) (sym q) (fork_row x (λ y rs d z. z) s v-open u-open f))
+          (λ (q : w ≡ v). subst (RowInv x (with_shadow e v u (Some s))) (sym q) (fork_row x (λ y rs d z. z) s v_open u_open f))
           (λ (q : w ≡ v → ⊥). fork_others s w q)
           (cases_eq w v);
     }
@@ -169,10 +169,10 @@ module _ (ar : Meaning) (pages : List ℕ) where
           scripts = refl;
           allowance = refl;
           others = put_others;
-          rows = λ w q. row_put_other e i.sized v u v-in u-in (Some forked) w q;
+          rows = λ w q. row_put_other e i.sized v u v_in u_in (Some forked) w q;
           lasts = λ w y a. ⊎_elim
               (λ (q : w ≡ v). ⊎_elim
-              (λ (p : y ≡ u). ap is_some (subst (λ m. shadow (with_shadow e v u (Some forked)) m y ≡ Some forked) (sym q) (subst (λ m. shadow (with_shadow e v u (Some forked)) v m ≡ Some forked) (sym p) (shadow_put e i.sized v u v-in u-in (Some forked)))))
+              (λ (p : y ≡ u). ap is_some (subst (λ m. shadow (with_shadow e v u (Some forked)) m y ≡ Some forked) (sym q) (subst (λ m. shadow (with_shadow e v u (Some forked)) v m ≡ Some forked) (sym p) (shadow_put e i.sized v u v_in u_in (Some forked)))))
               (λ (p : y ≡ u → ⊥). ap is_some (put_others w y (λ _ z. p z)) ∙ a)
               (cases_eq y u))
               (λ (q : w ≡ v → ⊥). ap is_some (put_others w y (λ z _. q z)) ∙ a)
@@ -185,16 +185,16 @@ module _ (ar : Meaning) (pages : List ℕ) where
         put_others : (w y : ℕ) → (w ≡ v → y ≡ u → ⊥) → shadow (with_shadow e v u (Some forked)) w y ≡ shadow e w y
         put_others w y d =
             ⊎_elim
-            (λ (q : w ≡ v). subst (λ m. shadow (with_shadow e v u (Some forked)) m y ≡ shadow e m y) (sym q) (shadow_put_place e i.sized v u v-in u-in (Some forked) y (d q)))
-            (λ (q : w ≡ v → ⊥). shadow_put_row e i.sized v u v-in u-in (Some forked) w y q)
+            (λ (q : w ≡ v). subst (λ m. shadow (with_shadow e v u (Some forked)) m y ≡ shadow e m y) (sym q) (shadow_put_place e i.sized v u v_in u_in (Some forked) y (d q)))
+            (λ (q : w ≡ v → ⊥). shadow_put_row e i.sized v u v_in u_in (Some forked) w y q)
             (cases_eq w v)
 
     -- accounting keeps the invariant
     pub account_inv : is_open e v ≡ true → is_open e u ≡ true → Inv x (account e v u)
-    account_inv v-open u-open =
+    account_inv v_open u_open =
         ⊎_elim
         (λ (h : has_room e v u ≡ true).
-        subst (Inv x) (sym (account_forks h)) (fork_inv forked v-open u-open (forked_fork (furthest_of (clean e u) v (row e v)) refl h)))
+        subst (Inv x) (sym (account_forks h)) (fork_inv forked v_open u_open (forked_fork (furthest_of (clean e u) v (row e v)) refl h)))
         (λ (h : has_room e v u ≡ false). subst (Inv x) (sym (account_stays h)) i)
         (cases_Bool (has_room e v u))
 
@@ -206,19 +206,19 @@ module _ (ar : Meaning) (pages : List ℕ) where
         (λ (h : has_room e v u ≡ false).
         let parts = or_parts (is_some (shadow e v u)) (ltb (count (row e v)) e.allowance) h in
         let full = ltb-false (count (row e v)) e.allowance parts.1 in
-        let long = i.sized.places v v-in in
+        let long = i.sized.places v v_in in
         let free = count_free (row e v) u (omega arith) (none_is (shadow e v u) parts.0) in
         absurd (omega arith))
         (cases_Bool (has_room e v u))
 
     pub account-there : has_room e v u ≡ true → is_some (shadow (account e v u) v u) ≡ true
-    account-there h = ap is_some (ap (λ z. shadow z v u) (account_forks h) ∙ shadow_put e i.sized v u v-in u-in (Some forked))
+    account-there h = ap is_some (ap (λ z. shadow z v u) (account_forks h) ∙ shadow_put e i.sized v u v_in u_in (Some forked))
 
     -- after accounting nothing is exempt in the row for u
     pub account-row : (x' : Exempt) → ((w : ℕ) (rs : List ReadEntry) → w ≢ u → x' w rs ≡ false → x w rs ≡ false) → is_open e v ≡ true → is_open e u ≡ true → RowInv x' (account e v u) v
-    account-row x' weaker v-open u-open =
+    account-row x' weaker v_open u_open =
         ⊎_elim
-        (λ (h : has_room e v u ≡ true). subst (λ z. RowInv x' z v) (sym (account_forks h)) (fork_row x' weaker forked v-open u-open (forked_fork (furthest_of (clean e u) v (row e v)) refl h)))
+        (λ (h : has_room e v u ≡ true). subst (λ z. RowInv x' z v) (sym (account_forks h)) (fork_row x' weaker forked v_open u_open (forked_fork (furthest_of (clean e u) v (row e v)) refl h)))
         (λ (h : has_room e v u ≡ false). subst (λ z. RowInv x' z v) (sym (account_stays h)) (stays h))
         (cases_Bool (has_room e v u))
       where

@@ -143,9 +143,9 @@ module _ (ar : Meaning) (script : Steps) where
     there-moved n (Some (moved m)) f t h = (m, refl, h)
     there-moved n (Some (off_pages p)) f t h = let z : ◌≡◌ {A = ℕ} 0 1 = cc in absurd (omega arith)
 
-    pub first_of : (fuel : ℕ) (test : Stand → Bool) (s t : Stand) → first_stand fuel ar script pages test s ≡ there t → First test s t
-    first_of zero test s t h = let z : ◌≡◌ {A = ℕ} 0 1 = cc in absurd (omega arith)
-    first_of (suc fuel) test s t h =
+    pub first_reached : (fuel : ℕ) (test : Stand → Bool) (s t : Stand) → first_stand fuel ar script pages test s ≡ there t → First test s t
+    first_reached zero test s t h = let z : ◌≡◌ {A = ℕ} 0 1 = cc in absurd (omega arith)
+    first_reached (suc fuel) test s t h =
         let rest = go_on s.step (next ar script pages s) (first_stand fuel ar script pages test) in
         ⊎_elim
         (λ (e : test s ≡ true).
@@ -153,7 +153,7 @@ module _ (ar : Meaning) (script : Steps) where
         subst (First test s) same (record { leads = here; passes = e; before = λ u l k. let r = leads-rises l in absurd (omega arith) }))
         (λ (e : test s ≡ false).
         let m = there-moved s.step (next ar script pages s) (first_stand fuel ar script pages test) t (sym (cond-false (test s) (there s) rest e) ∙ h) in
-        let f = first_of fuel test m.0 t m.2 in
+        let f = first_reached fuel test m.0 t m.2 in
         record {
           leads = more m.1 f.leads;
           passes = f.passes;
@@ -178,7 +178,7 @@ module _ (ar : Meaning) (script : Steps) where
 
     -- the stand on reaching a step is the reached stand of that step
     pub stand_reached : (n : ℕ) (t : Stand) → stand_at ar script pages n ≡ there t → Leads ar script pages start t × (t.step ≡ n)
-    stand_reached n t h = let f = first_of (suc (length script)) (is_at n) start t h in (f.leads, eqb-true t.step n f.passes)
+    stand_reached n t h = let f = first_reached (suc (length script)) (is_at n) start t h in (f.leads, eqb-true t.step n f.passes)
 
     pub reached_stand : (t : Stand) → Leads ar script pages start t → t.step ≤ length script → stand_at ar script pages t.step ≡ there t
     reached_stand t l k = comes_to (suc (length script)) l (omega arith)

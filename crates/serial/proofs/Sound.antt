@@ -154,28 +154,28 @@ next_fits ar sc pages s t ends h f =
     let o = store_read (slice_get sc s.step) s in
     let reads : length t.reads ≤ suc (length s.reads) = omega (arith, ap length x.move.reads, length-append s.reads (noted s.step o), noted_one s.step o) in
     let own = effect-own pages s (effect ar x.step s) t (x.move.frame pages refl (λ p e. refl)) in
-    let few-reads = f.1 in
-    let few-own = f.2 in
+    let few_reads = f.1 in
+    let few_own = f.2 in
     (next-ends ar sc pages s t ends h, omega arith, omega arith)
 
 start_fits : (sc : Steps) → FitsScript sc start
 start_fits sc = (omega arith, omega arith, omega arith)
 
 -- another shadow in a place of an open slot
-module _ (e : Engine) (o : Holds e) (v u : ℕ) (v-in : v < 8) (u-in : u < 8) (sc : Steps) (script : script_of e v ≡ Some sc) (u-open : is_open e u ≡ true) (s : Stand) (f : FitsScript sc s) (room : count (set (row e v) u (Some s)) ≤ e.allowance) where
+module _ (e : Engine) (o : Holds e) (v u : ℕ) (v_in : v < 8) (u_in : u < 8) (sc : Steps) (script : script_of e v ≡ Some sc) (u_open : is_open e u ≡ true) (s : Stand) (f : FitsScript sc s) (room : count (set (row e v) u (Some s)) ≤ e.allowance) where
   pub put_ok : Holds (with_shadow e v u (Some s))
   put_ok =
       let e' = with_shadow e v u (Some s) in
-      let now-there : shadow e' v u ≡ Some s = shadow_put e o.sized v u v-in u-in (Some s) in
+      let now_there : shadow e' v u ≡ Some s = shadow_put e o.sized v u v_in u_in (Some s) in
       let other : (w y : ℕ) → (w ≡ v → y ≡ u → ⊥) → shadow e' w y ≡ shadow e w y = λ w y d. ⊎_elim
-      (λ (q : w ≡ v). subst (λ m. shadow e' m y ≡ shadow e m y) (sym q) (shadow_put_place e o.sized v u v-in u-in (Some s) y (d q)))
-      (λ (q : w ≡ v → ⊥). shadow_put_row e o.sized v u v-in u-in (Some s) w y q)
+      (λ (q : w ≡ v). subst (λ m. shadow e' m y ≡ shadow e m y) (sym q) (shadow_put_place e o.sized v u v_in u_in (Some s) y (d q)))
+      (λ (q : w ≡ v → ⊥). shadow_put_row e o.sized v u v_in u_in (Some s) w y q)
       (cases_eq w v) in
       -- the place, or another one
       let here_or : (w y : ℕ) → ((w ≡ v) × (y ≡ u)) ⊎ (w ≡ v → y ≡ u → ⊥) = λ w y. ⊎_elim (λ (q : w ≡ v). ⊎_elim (λ (p : y ≡ u). inl (q, p)) (λ (p : y ≡ u → ⊥). inr (λ _ z. p z)) (cases_eq y u)) (λ (q : w ≡ v → ⊥). inr (λ z _. q z)) (cases_eq w v) in
-      let at_here : (w y : ℕ) → (w ≡ v) × (y ≡ u) → shadow e' w y ≡ Some s = λ w y q. subst (λ m. shadow e' m y ≡ Some s) (sym q.0) (subst (λ m. shadow e' v m ≡ Some s) (sym q.1) now-there) in
+      let at_here : (w y : ℕ) → (w ≡ v) × (y ≡ u) → shadow e' w y ≡ Some s = λ w y q. subst (λ m. shadow e' m y ≡ Some s) (sym q.0) (subst (λ m. shadow e' v m ≡ Some s) (sym q.1) now_there) in
       record {
-        sized = sized_put e o.sized v u v-in u-in (Some s);
+        sized = sized_put e o.sized v u v_in u_in (Some s);
         allowed = o.allowed;
         bare = λ t w h. ⊎_elim
             (λ (q : (t ≡ v) × (w ≡ u)). absurd (true≢false (sym (ap is_some script) ∙ ap (is_open e) (sym q.0) ∙ h)))
@@ -183,28 +183,28 @@ module _ (e : Engine) (o : Holds e) (v u : ℕ) (v-in : v < 8) (u-in : u < 8) (s
             (here_or t w);
         led = λ t h. ⊎_elim (λ (q : (t ≡ v) × (t ≡ u)). ap is_some (at_here t t q)) (λ (q : t ≡ v → t ≡ u → ⊥). ap is_some (other t t q) ∙ o.led t h) (here_or t t);
         few = λ t. ⊎_elim
-            (λ (q : t ≡ v). subst (λ m. count (row e' m) ≤ e.allowance) (sym q) (subst (λ cs. count cs ≤ e.allowance) (sym (row_put e o.sized v u v-in u-in (Some s))) room))
-            (λ (q : t ≡ v → ⊥). subst (λ cs. count cs ≤ e.allowance) (sym (row_put_other e o.sized v u v-in u-in (Some s) t q)) (o.few t))
+            (λ (q : t ≡ v). subst (λ m. count (row e' m) ≤ e.allowance) (sym q) (subst (λ cs. count cs ≤ e.allowance) (sym (row_put e o.sized v u v_in u_in (Some s))) room))
+            (λ (q : t ≡ v → ⊥). subst (λ cs. count cs ≤ e.allowance) (sym (row_put_other e o.sized v u v_in u_in (Some s) t q)) (o.few t))
             (cases_eq t v);
-        for_open = λ t w h. ⊎_elim (λ (q : (t ≡ v) × (w ≡ u)). ap (is_open e) q.1 ∙ u-open) (λ (q : t ≡ v → w ≡ u → ⊥). o.for_open t w (sym (ap is_some (other t w q)) ∙ h)) (here_or t w);
+        for_open = λ t w h. ⊎_elim (λ (q : (t ≡ v) × (w ≡ u)). ap (is_open e) q.1 ∙ u_open) (λ (q : t ≡ v → w ≡ u → ⊥). o.for_open t w (sym (ap is_some (other t w q)) ∙ h)) (here_or t w);
         scripts = o.scripts;
         shadows = λ t w z y h k. ⊎_elim
             (λ (q : (t ≡ v) × (w ≡ u)).
-            let same-script : sc ≡ z = let m : Some sc ≡ Some z = sym script ∙ ap (script_of e) (sym q.0) ∙ h in cc in
-            let same-stand : s ≡ y = let m : Some s ≡ Some y = sym (at_here t w q) ∙ k in cc in
-            subst (λ a. FitsScript a y) same-script (subst (FitsScript sc) same-stand f))
+            let same_script : sc ≡ z = let m : Some sc ≡ Some z = sym script ∙ ap (script_of e) (sym q.0) ∙ h in cc in
+            let same_stand : s ≡ y = let m : Some s ≡ Some y = sym (at_here t w q) ∙ k in cc in
+            subst (λ a. FitsScript a y) same_script (subst (FitsScript sc) same_stand f))
             (λ (q : t ≡ v → w ≡ u → ⊥). o.shadows t w z y h (sym (other t w q) ∙ k))
             (here_or t w);
       }
 
 -- accounting
 account-ok : (e : Engine) → Holds e → (v u : ℕ) → is_open e v ≡ true → is_open e u ≡ true → Holds (account e v u)
-account-ok e o v u v-open u-open =
-    let sc = some_is (script_of e v) v-open in
-    let v-in = open_within e o.sized v v-open in
-    let u-in = open_within e o.sized u u-open in
+account-ok e o v u v_open u_open =
+    let sc = some_is (script_of e v) v_open in
+    let v_in = open_within e o.sized v v_open in
+    let u_in = open_within e o.sized u u_open in
     cond_both (has_room e v u) (with_shadow e v u (Some (unwrap_or (furthest_of (clean e u) v (row e v)) start))) e Holds
-    (λ h. put_ok e o v u v-in u-in sc.0 sc.1 u-open _ (forked sc.0 sc.1 (furthest_of (clean e u) v (row e v)) refl) (room h _))
+    (λ h. put_ok e o v u v_in u_in sc.0 sc.1 u_open _ (forked sc.0 sc.1 (furthest_of (clean e u) v (row e v)) refl) (room h _))
     (λ h. o)
   where
     forked : (sc : Steps) → script_of e v ≡ Some sc → (x : Option Stand) → furthest_of (clean e u) v (row e v) ≡ x → FitsScript sc (unwrap_or x start)
@@ -221,13 +221,13 @@ account-ok e o v u v-open u-open =
 
 -- accounting leaves leading shadows and scripts
 account_lead : (e : Engine) → Holds e → (v u : ℕ) → u ≢ v → is_open e v ≡ true → is_open e u ≡ true → (w : ℕ) → shadow (account e v u) w w ≡ shadow e w w
-account_lead e o v u ne v-open u-open w =
-    let v-in = open_within e o.sized v v-open in
-    let u-in = open_within e o.sized u u-open in
+account_lead e o v u ne v_open u_open w =
+    let v_in = open_within e o.sized v v_open in
+    let u_in = open_within e o.sized u u_open in
     cond_both (has_room e v u) (with_shadow e v u (Some (unwrap_or (furthest_of (clean e u) v (row e v)) start))) e (λ z. shadow z w w ≡ shadow e w w)
     (λ h. ⊎_elim
-    (λ (q : w ≡ v). let apart : w ≢ u = λ z. ne (sym z ∙ q) in subst (λ m. shadow (with_shadow e v u (Some (unwrap_or (furthest_of (clean e u) v (row e v)) start))) m w ≡ shadow e m w) (sym q) (shadow_put_place e o.sized v u v-in u-in (Some (unwrap_or (furthest_of (clean e u) v (row e v)) start)) w apart))
-    (λ (q : w ≡ v → ⊥). shadow_put_row e o.sized v u v-in u-in (Some (unwrap_or (furthest_of (clean e u) v (row e v)) start)) w w q)
+    (λ (q : w ≡ v). let apart : w ≢ u = λ z. ne (sym z ∙ q) in subst (λ m. shadow (with_shadow e v u (Some (unwrap_or (furthest_of (clean e u) v (row e v)) start))) m w ≡ shadow e m w) (sym q) (shadow_put_place e o.sized v u v_in u_in (Some (unwrap_or (furthest_of (clean e u) v (row e v)) start)) w apart))
+    (λ (q : w ≡ v → ⊥). shadow_put_row e o.sized v u v_in u_in (Some (unwrap_or (furthest_of (clean e u) v (row e v)) start)) w w q)
     (cases_eq w v))
     (λ h. refl)
 
@@ -250,7 +250,7 @@ pub open_same : (e e' : Engine) (t : ℕ) → e'.scripts ≡ e.scripts → is_op
 open_same e e' t q h = ap (λ xs. is_some (get_or xs t None)) q ∙ h
 
 accounted_stays : (e : Engine) → Holds e → (v u : ℕ) → u ≢ v → is_open e v ≡ true → is_open e u ≡ true → Stays e (account e v u)
-accounted_stays e o v u ne v-open u-open = record { ok = account-ok e o v u v-open u-open; leads = account_lead e o v u ne v-open u-open; scripts = account-script e v u }
+accounted_stays e o v u ne v_open u_open = record { ok = account-ok e o v u v_open u_open; leads = account_lead e o v u ne v_open u_open; scripts = account-script e v u }
 
 pub reads_stay : (us : List ℕ) (e : Engine) (t p : ℕ) → Holds e → is_open e t ≡ true → Stays e (account_reads e t p us)
 reads_stay [] e t p o t_open = stays_same e o
@@ -302,26 +302,26 @@ moves-ok ar pages e o t u sc s to script h step =
 
 -- a commit of any list, over any pages
 committed-ok : (e : Engine) → Holds e → (t : ℕ) → t < 8 → (own : List WriteEntry) → Holds (committed e t own)
-committed-ok e o t t-in own = record {
-  sized = committed-sized e z t t-in own;
+committed-ok e o t t_in own = record {
+  sized = committed-sized e z t t_in own;
   allowed = o.allowed;
   bare = λ v u h. ⊎_elim
-      (λ (q : v ≡ t). ap is_some (ap (λ w. shadow e' w u) q ∙ none_of e z t t-in own u))
+      (λ (q : v ≡ t). ap is_some (ap (λ w. shadow e' w u) q ∙ none_of e z t t_in own u))
       (λ (q : v ≡ t → ⊥).
-      let was : is_open e v ≡ false = sym (ap is_some (script_other e z t t-in own v q)) ∙ h in
+      let was : is_open e v ≡ false = sym (ap is_some (script_other e z t t_in own v q)) ∙ h in
       let gone : (w : ℕ) → shadow e v w ≡ None = λ w. none_is (shadow e v w) (o.bare v w was) in
       ap is_some (⊎_elim
-      (λ (d : u ≡ v). ap (shadow e' v) d ∙ lead_none e z t t-in own v q (gone v))
-      (λ (d : u ≡ v → ⊥). ⊎_elim (λ (w : u ≡ t). ap (shadow e' v) w ∙ none_for e z t t-in own v q) (λ (w : u ≡ t → ⊥). others_kept e z t t-in own v u q w d ∙ ap (kept own) (gone u)) (cases_eq u t))
+      (λ (d : u ≡ v). ap (shadow e' v) d ∙ lead_none e z t t_in own v q (gone v))
+      (λ (d : u ≡ v → ⊥). ⊎_elim (λ (w : u ≡ t). ap (shadow e' v) w ∙ none_for e z t t_in own v q) (λ (w : u ≡ t → ⊥). others_kept e z t t_in own v u q w d ∙ ap (kept own) (gone u)) (cases_eq u t))
       (cases_eq u v)))
       (cases_eq v t);
   led = λ v h. let ne = still_open v h in let l = was_led v ne h in ap is_some (new_lead v ne l.0 l.1).1.0;
-  few = λ v. let a = committed-count e z t t-in own v in let b = o.few v in omega arith;
-  for_open = λ v u h. let s = some_is (shadow e' v u) h in let w = was_there v u s.0 s.1 in ap is_some (script_other e z t t-in own u w.1) ∙ w.3;
-  scripts = λ v sc h. o.scripts v sc (sym (script_other e z t t-in own v (still_open v (ap is_some h))) ∙ h);
+  few = λ v. let a = committed-count e z t t_in own v in let b = o.few v in omega arith;
+  for_open = λ v u h. let s = some_is (shadow e' v u) h in let w = was_there v u s.0 s.1 in ap is_some (script_other e z t t_in own u w.1) ∙ w.3;
+  scripts = λ v sc h. o.scripts v sc (sym (script_other e z t t_in own v (still_open v (ap is_some h))) ∙ h);
   shadows = λ v u sc s h k.
       let ne = still_open v (ap is_some h) in
-      let was : script_of e v ≡ Some sc = sym (script_other e z t t-in own v ne) ∙ h in
+      let was : script_of e v ≡ Some sc = sym (script_other e z t t_in own v ne) ∙ h in
       ⊎_elim
       (λ (d : u ≡ v).
       let l = was_led v ne (ap is_some h) in
@@ -339,48 +339,48 @@ committed-ok e o t t-in own = record {
     e' = committed e t own
 
     still_open : (v : ℕ) → is_open (committed e t own) v ≡ true → v ≢ t
-    still_open v h q = true≢false (sym h ∙ ap (λ w. is_open (committed e t own) w) q ∙ ap is_some (script-there e o.sized t t-in own))
+    still_open v h q = true≢false (sym h ∙ ap (λ w. is_open (committed e t own) w) q ∙ ap is_some (script-there e o.sized t t_in own))
 
     was_led : (v : ℕ) → v ≢ t → is_open (committed e t own) v ≡ true → (l : Stand) × (shadow e v v ≡ Some l)
-    was_led v ne h = some_is (shadow e v v) (o.led v (sym (ap is_some (script_other e o.sized t t-in own v ne)) ∙ h))
+    was_led v ne h = some_is (shadow e v v) (o.led v (sym (ap is_some (script_other e o.sized t t_in own v ne)) ∙ h))
 
     -- the leading shadow after it is one from before, or a start
     new_lead : (v : ℕ) → v ≢ t → (l : Stand) → shadow e v v ≡ Some l → (x : Stand) × ((shadow (committed e t own) v v ≡ Some x) × ((sc : Steps) → script_of e v ≡ Some sc → FitsScript sc x))
     new_lead v ne l h =
         ⊎_elim
         (λ (read : has_read_any l.reads own ≡ true). by read (furthest_of any_shadow v (remaining own (row e v))) refl)
-        (λ (unread : has_read_any l.reads own ≡ false). (l, (lead_stays e o.sized t t-in own v l ne h unread, λ sc q. o.shadows v v sc l q h)))
+        (λ (unread : has_read_any l.reads own ≡ false). (l, (lead_stays e o.sized t t_in own v l ne h unread, λ sc q. o.shadows v v sc l q h)))
         (cases_Bool (has_read_any l.reads own))
       where
         by : has_read_any l.reads own ≡ true → (x : Option Stand) → furthest_of any_shadow v (remaining own (row e v)) ≡ x → (x : Stand) × ((shadow (committed e t own) v v ≡ Some x) × ((sc : Steps) → script_of e v ≡ Some sc → FitsScript sc x))
-        by read None q = (start, (lead_renewed e o.sized t t-in own v l ne h read ∙ ap (λ y. Some (unwrap_or y start)) q, λ sc k. start_fits sc))
+        by read None q = (start, (lead_renewed e o.sized t t_in own v l ne h read ∙ ap (λ y. Some (unwrap_or y start)) q, λ sc k. start_fits sc))
         by read (Some x) q =
             let a = furthest_of_among any_shadow v (remaining own (row e v)) x q in
             let was = kept_was own (shadow e v a.0) x (sym (remaining_at own (row e v) a.0) ∙ a.1) in
-            (x, (lead_renewed e o.sized t t-in own v l ne h read ∙ ap (λ y. Some (unwrap_or y start)) q, λ sc k. o.shadows v a.0 sc x k was.0))
+            (x, (lead_renewed e o.sized t t_in own v l ne h read ∙ ap (λ y. Some (unwrap_or y start)) q, λ sc k. o.shadows v a.0 sc x k was.0))
 
     old : (v u : ℕ) (s : Stand) → v ≢ t → u ≢ v → shadow (committed e t own) v u ≡ Some s → (u ≢ t) × (shadow e v u ≡ Some s)
     old v u s ne d h =
         ⊎_elim
-        (λ (q : u ≡ t). none_is_some s (sym (none_for e o.sized t t-in own v ne) ∙ ap (shadow (committed e t own) v) (sym q) ∙ h))
-        (λ (q : u ≡ t → ⊥). (q, (kept_was own (shadow e v u) s (sym (others_kept e o.sized t t-in own v u ne q d) ∙ h)).0))
+        (λ (q : u ≡ t). none_is_some s (sym (none_for e o.sized t t_in own v ne) ∙ ap (shadow (committed e t own) v) (sym q) ∙ h))
+        (λ (q : u ≡ t → ⊥). (q, (kept_was own (shadow e v u) s (sym (others_kept e o.sized t t_in own v u ne q d) ∙ h)).0))
         (cases_eq u t)
 
     was_there : (v u : ℕ) (s : Stand) → shadow (committed e t own) v u ≡ Some s → (v ≢ t) × (u ≢ t) × (is_some (shadow e v u) ≡ true) × (is_open e u ≡ true)
     was_there v u s h =
-        let ne : v ≢ t = λ q. none_is_some {A = ⊥} s (sym (none_of e o.sized t t-in own u) ∙ ap (λ w. shadow (committed e t own) w u) (sym q) ∙ h) in
+        let ne : v ≢ t = λ q. none_is_some {A = ⊥} s (sym (none_of e o.sized t t_in own u) ∙ ap (λ w. shadow (committed e t own) w u) (sym q) ∙ h) in
         ⊎_elim
         (λ (d : u ≡ v).
-        let u-ne : u ≢ t = λ q. ne (sym d ∙ q) in
+        let u_ne : u ≢ t = λ q. ne (sym d ∙ q) in
         ⊎_elim
-        (λ (l : (x : Stand) × (shadow e v v ≡ Some x)). (ne, u-ne, ap is_some (ap (shadow e v) d ∙ l.1), ap (is_open e) d ∙ o.for_open v v (ap is_some l.1)))
-        (λ (l : shadow e v v ≡ None). none_is_some s (sym (lead_none e o.sized t t-in own v ne l) ∙ ap (shadow (committed e t own) v) (sym d) ∙ h))
+        (λ (l : (x : Stand) × (shadow e v v ≡ Some x)). (ne, u_ne, ap is_some (ap (shadow e v) d ∙ l.1), ap (is_open e) d ∙ o.for_open v v (ap is_some l.1)))
+        (λ (l : shadow e v v ≡ None). none_is_some s (sym (lead_none e o.sized t t_in own v ne l) ∙ ap (shadow (committed e t own) v) (sym d) ∙ h))
         (some_or_none (shadow e v v)))
         (λ (d : u ≡ v → ⊥). let w = old v u s ne d h in (ne, w.0, ap is_some w.1, o.for_open v u (ap is_some w.1)))
         (cases_eq u v)
 
 -- begin
-module _ (e : Engine) (o : Holds e) (t : ℕ) (t-in : t < 8) (free : is_open e t ≡ false) (sc : Steps) (fit : (length sc ≤ 16) × EndsAtEnd sc) where
+module _ (e : Engine) (o : Holds e) (t : ℕ) (t_in : t < 8) (free : is_open e t ≡ false) (sc : Steps) (fit : (length sc ≤ 16) × EndsAtEnd sc) where
   abbrev entered : Engine
   entered = record { allowance = e.allowance; scripts = set e.scripts t (Some sc); shadows = e.shadows }
 
@@ -394,14 +394,14 @@ module _ (e : Engine) (o : Holds e) (t : ℕ) (t-in : t < 8) (free : is_open e t
   script_then v ne = get_or-set_other e.scripts t v (Some sc) None ne
 
   lead_now : shadow (begun e t sc) t t ≡ Some start
-  lead_now = shadow_put entered entered-sized t t t-in t-in (Some start)
+  lead_now = shadow_put entered entered-sized t t t_in t_in (Some start)
 
   -- every other place is as it was
   place_then : (v u : ℕ) → (v ≡ t → u ≡ t → ⊥) → shadow (begun e t sc) v u ≡ shadow e v u
   place_then v u d =
       ⊎_elim
-      (λ (q : v ≡ t). subst (λ m. shadow (begun e t sc) m u ≡ shadow e m u) (sym q) (shadow_put_place entered entered-sized t t t-in t-in (Some start) u (d q)))
-      (λ (q : v ≡ t → ⊥). shadow_put_row entered entered-sized t t t-in t-in (Some start) v u q)
+      (λ (q : v ≡ t). subst (λ m. shadow (begun e t sc) m u ≡ shadow e m u) (sym q) (shadow_put_place entered entered-sized t t t_in t_in (Some start) u (d q)))
+      (λ (q : v ≡ t → ⊥). shadow_put_row entered entered-sized t t t_in t_in (Some start) v u q)
       (cases_eq v t)
 
   here_or : (v u : ℕ) → ((v ≡ t) × (u ≡ t)) ⊎ (v ≡ t → u ≡ t → ⊥)
@@ -415,7 +415,7 @@ module _ (e : Engine) (o : Holds e) (t : ℕ) (t-in : t < 8) (free : is_open e t
 
   begun_ok : Holds (begun e t sc)
   begun_ok = record {
-    sized = sized_put entered entered-sized t t t-in t-in (Some start);
+    sized = sized_put entered entered-sized t t t_in t_in (Some start);
     allowed = o.allowed;
     bare = λ v u h.
         let ne : v ≢ t = λ q. true≢false (sym (ap is_some script_now) ∙ ap (is_open (begun e t sc)) (sym q) ∙ h) in
@@ -425,9 +425,9 @@ module _ (e : Engine) (o : Holds e) (t : ℕ) (t-in : t < 8) (free : is_open e t
         (λ (q : v ≡ t → v ≡ t → ⊥). let ne : v ≢ t = λ z. q z z in ap is_some (place_then v v q) ∙ o.led v (sym (ap is_some (script_then v ne)) ∙ h))
         (here_or v v);
     few = λ v. ⊎_elim
-        (λ (q : v ≡ t). subst (λ m. count (row (begun e t sc) m) ≤ e.allowance) (sym q) (subst (λ cs. count cs ≤ e.allowance) (sym (row_put entered entered-sized t t t-in t-in (Some start)))
+        (λ (q : v ≡ t). subst (λ m. count (row (begun e t sc) m) ≤ e.allowance) (sym q) (subst (λ cs. count cs ≤ e.allowance) (sym (row_put entered entered-sized t t t_in t_in (Some start)))
         (let a = count_add (row e t) t start in let b = count_none (row e t) (λ u. none_is (shadow e t u) (o.bare t u free)) in let c = o.allowed.0 in omega arith)))
-        (λ (q : v ≡ t → ⊥). subst (λ cs. count cs ≤ e.allowance) (sym (row_put_other entered entered-sized t t t-in t-in (Some start) v q)) (o.few v))
+        (λ (q : v ≡ t → ⊥). subst (λ cs. count cs ≤ e.allowance) (sym (row_put_other entered entered-sized t t t_in t_in (Some start) v q)) (o.few v))
         (cases_eq v t);
     for_open = λ v u h. ⊎_elim
         (λ (q : (v ≡ t) × (u ≡ t)). ap (is_open (begun e t sc)) q.1 ∙ ap is_some script_now)
@@ -470,22 +470,22 @@ module _ (ar : Meaning) where
       }
 
   begin-keeps : (s : State) (t : ℕ) (bytes : List ℕ) → Holds s.engine → t < 8 → is_open s.engine t ≡ false → (r : Result Steps ScriptFault) → decoded bytes ≡ r → Keeps (begin_with s t r)
-  begin-keeps s t bytes o t-in free (Err f) h = o
-  begin-keeps s t bytes o t-in free (Ok sc) h =
+  begin-keeps s t bytes o t_in free (Err f) h = o
+  begin-keeps s t bytes o t_in free (Ok sc) h =
       let d = subst (Decodes bytes) h (decodes bytes) in
       let few = (fit_facts bytes d.0).few in
       let long : length sc ≡ _ = d.1 in
-      begun_ok s.engine o t t-in free sc (omega arith, d.3)
+      begun_ok s.engine o t t_in free sc (omega arith, d.3)
 
   step_keeps : (s : State) (t u : ℕ) (sc : Steps) (at : Stand) → Holds s.engine → script_of s.engine t ≡ Some sc → shadow s.engine t u ≡ Some at → (x : Option Taken) → next ar sc s.pages at ≡ x → Keeps (turn_step s t u sc at x)
-  step_keeps s t u sc at o script here-now None h = o
-  step_keeps s t u sc at o script here-now (Some (off_pages p)) h = o
-  step_keeps s t u sc at o script here-now (Some (moved to)) h = moves-ok ar s.pages s.engine o t u sc at to script here-now h
+  step_keeps s t u sc at o script here_now None h = o
+  step_keeps s t u sc at o script here_now (Some (off_pages p)) h = o
+  step_keeps s t u sc at o script here_now (Some (moved to)) h = moves-ok ar s.pages s.engine o t u sc at to script here_now h
 
   standing-keeps : (s : State) (t u : ℕ) (sc : Steps) (at : Stand) → Holds s.engine → script_of s.engine t ≡ Some sc → shadow s.engine t u ≡ Some at → (x : Standing) → Keeps (turn_standing ar s t u sc at x)
-  standing-keeps s t u sc at o script here-now AtEnd = o
-  standing-keeps s t u sc at o script here-now Halted = o
-  standing-keeps s t u sc at o script here-now Ready = step_keeps s t u sc at o script here-now (next ar sc s.pages at) refl
+  standing-keeps s t u sc at o script here_now AtEnd = o
+  standing-keeps s t u sc at o script here_now Halted = o
+  standing-keeps s t u sc at o script here_now Ready = step_keeps s t u sc at o script here_now (next ar sc s.pages at) refl
 
   shadow-keeps : (s : State) (t u : ℕ) (sc : Steps) → Holds s.engine → script_of s.engine t ≡ Some sc → (x : Option Stand) → shadow s.engine t u ≡ x → Keeps (turn_shadow ar s t u sc x)
   shadow-keeps s t u sc o script None h = o
@@ -496,26 +496,26 @@ module _ (ar : Meaning) where
   open_keeps s t u o (Some sc) h = shadow-keeps s t u sc o h (shadow s.engine t u) refl
 
   puts_keep : (s : State) (t : ℕ) (lead : Stand) → Holds s.engine → t < 8 → (x : Option ℕ) → Keeps (commit_puts s t lead x)
-  puts_keep s t lead o t-in (Some p) = o
-  puts_keep s t lead o t-in None = committed-ok s.engine o t t-in lead.own
+  puts_keep s t lead o t_in (Some p) = o
+  puts_keep s t lead o t_in None = committed-ok s.engine o t t_in lead.own
 
   commit-keeps : (s : State) (t : ℕ) → Holds s.engine → t < 8 → (x : Option Steps) → Keeps (commit_open s t x)
-  commit-keeps s t o t-in None = o
-  commit-keeps s t o t-in (Some sc) =
+  commit-keeps s t o t_in None = o
+  commit-keeps s t o t_in (Some sc) =
       let lead = unwrap_or (shadow s.engine t t) start in
-      cond_both {A = Done} (leb (length sc) lead.step) _ _ Keeps (λ e. puts_keep s t lead o t-in (first_off (length s.pages) lead.own)) (λ e. o)
+      cond_both {A = Done} (leb (length sc) lead.step) _ _ Keeps (λ e. puts_keep s t lead o t_in (first_off (length s.pages) lead.own)) (λ e. o)
 
   abort-keeps : (s : State) (t : ℕ) → Holds s.engine → t < 8 → (x : Option Steps) → Keeps (abort_open s t x)
-  abort-keeps s t o t-in None = o
-  abort-keeps s t o t-in (Some sc) = subst Holds (abort_is s.engine t) (committed-ok s.engine o t t-in [])
+  abort-keeps s t o t_in None = o
+  abort-keeps s t o t_in (Some sc) = subst Holds (abort_is s.engine t) (committed-ok s.engine o t t_in [])
 
   does-holds : (c : Call) (s : State) → Holds s.engine → Keeps (does ar c s)
   does-holds (set_allowance k) s o =
       cond_both {A = Done} (leb 1 k && leb k 8) _ _ Keeps (λ e. let a = and_parts (leb 1 k) (leb k 8) e in allow_keeps s k o (leb-true 1 k a.0, leb-true k 8 a.1) (first_open 0 s.engine.scripts) refl) (λ e. o)
-  does-holds (begin t bytes) s o = range_keeps s t _ o (λ t-in. cond_both {A = Done} (is_open s.engine t) _ _ Keeps (λ e. o) (λ e. begin-keeps s t bytes o t-in e (decoded bytes) refl))
+  does-holds (begin t bytes) s o = range_keeps s t _ o (λ t_in. cond_both {A = Done} (is_open s.engine t) _ _ Keeps (λ e. o) (λ e. begin-keeps s t bytes o t_in e (decoded bytes) refl))
   does-holds (turn t u) s o = range_keeps s t _ o (λ _. range_keeps s u _ o (λ _. open_keeps s t u o (script_of s.engine t) refl))
-  does-holds (commit t) s o = range_keeps s t _ o (λ t-in. commit-keeps s t o t-in (script_of s.engine t))
-  does-holds (abort t) s o = range_keeps s t _ o (λ t-in. abort-keeps s t o t-in (script_of s.engine t))
+  does-holds (commit t) s o = range_keeps s t _ o (λ t_in. commit-keeps s t o t_in (script_of s.engine t))
+  does-holds (abort t) s o = range_keeps s t _ o (λ t_in. abort-keeps s t o t_in (script_of s.engine t))
 
   pub does-sound : (c : Call) (s : State) → SoundEngine s.engine → SoundEngine (does ar c s).0.engine
   does-sound c s h = sound_from (does ar c s).0.engine (does-holds c s (ok_from s.engine h))

@@ -43,7 +43,7 @@ module _ (e : Engine) (z : Sized e) where
       (λ (l : 8 ≤ t). none_is_some s (sym (ap (λ xs. get_or xs u None) (row_past t l)) ∙ h))
       (cases_lt t 8)
 
-  module _ (t u : ℕ) (t-in : t < 8) (u-in : u < 8) (x : Option Stand) where
+  module _ (t u : ℕ) (t_in : t < 8) (u_in : u < 8) (x : Option Stand) where
     t_row : t < length e.shadows
     t_row = let r = z.rows in omega arith
 
@@ -54,7 +54,7 @@ module _ (e : Engine) (z : Sized e) where
     row_put_other v ne = get_or-set_other e.shadows t v (set (row e t) u x) [] ne
 
     pub shadow_put : shadow (with_shadow e t u x) t u ≡ x
-    shadow_put = ap (λ xs. get_or xs u None) row_put ∙ get_or-set_same (row e t) u x None (let p = z.places t t-in in omega arith)
+    shadow_put = ap (λ xs. get_or xs u None) row_put ∙ get_or-set_same (row e t) u x None (let p = z.places t t_in in omega arith)
 
     pub shadow_put_place : (w : ℕ) → w ≢ u → shadow (with_shadow e t u x) t w ≡ shadow e t w
     shadow_put_place w ne = ap (λ xs. get_or xs w None) row_put ∙ get_or-set_other (row e t) u w x None ne
@@ -68,7 +68,7 @@ module _ (e : Engine) (z : Sized e) where
       rows = length-set e.shadows t (set (row e t) u x) ∙ z.rows;
       places = λ v l.
           ⊎_elim
-          (λ (q : v ≡ t). ap (λ k. length (row (with_shadow e t u x) k)) q ∙ ap length row_put ∙ length-set (row e t) u x ∙ z.places t t-in)
+          (λ (q : v ≡ t). ap (λ k. length (row (with_shadow e t u x) k)) q ∙ ap length row_put ∙ length-set (row e t) u x ∙ z.places t t_in)
           (λ (q : v ≡ t → ⊥). ap length (row_put_other v q) ∙ z.places v l)
           (cases_eq v t);
     }

@@ -80,61 +80,61 @@ module _ (ar : Meaning) (pages : List ℕ) where
       (eqb-false u t (not-true (eqb u t) a.0), b.0)
 
   account_read-kept : (e : Engine) (t p u : ℕ) → t < 8 → is_open e t ≡ true → Inv ar pages no_exempt e → Before e t (account_read e t p u)
-  account_read-kept e t p u t-in t_open i =
+  account_read-kept e t p u t_in t_open i =
       ⊎_elim
       (λ (h : read_conflict e t p u ≡ true).
       let f = conflict_facts e t p u h in
-      let u-in = open_within e i.sized u f.1 in
-      let a = accounted ar pages no_exempt e i t u f.0 t-in u-in in
+      let u_in = open_within e i.sized u f.1 in
+      let a = accounted ar pages no_exempt e i t u f.0 t_in u_in in
       subst (Before e t) (sym (cond-true (read_conflict e t p u) (account e t u) e h)) (record {
         leads = a.leads;
         scripts = a.scripts;
         allowance = a.allowance;
         lasts = a.lasts;
-        inv = account_inv ar pages no_exempt e i t u f.0 t-in u-in t_open f.1;
+        inv = account_inv ar pages no_exempt e i t u f.0 t_in u_in t_open f.1;
       }))
       (λ (h : read_conflict e t p u ≡ false). subst (Before e t) (sym (cond-false (read_conflict e t p u) (account e t u) e h)) (before_same e t i))
       (cases_Bool (read_conflict e t p u))
 
   -- under allowance 8, a slot in conflict gets a shadow, or has one
   account_read-there : (e : Engine) (t p u : ℕ) → t < 8 → is_open e t ≡ true → Inv ar pages no_exempt e → e.allowance ≡ 8 → u ≢ t → is_open e u ≡ true → has_written (lead_writes e u) p ≡ true → is_some (shadow (account_read e t p u) t u) ≡ true
-  account_read-there e t p u t-in t_open i k ne u-open w =
-      let u-in = open_within e i.sized u u-open in
+  account_read-there e t p u t_in t_open i k ne u_open w =
+      let u_in = open_within e i.sized u u_open in
       ⊎_elim
-      (λ (h : is_some (shadow e t u) ≡ true). (account_read-kept e t p u t-in t_open i).lasts t u h)
+      (λ (h : is_some (shadow e t u) ≡ true). (account_read-kept e t p u t_in t_open i).lasts t u h)
       (λ (h : is_some (shadow e t u) ≡ false).
-      let c : read_conflict e t p u ≡ true = and_from _ _ (not_from_false (eqb u t) (ne_eqb u t ne)) (and_from _ _ u-open (and_from _ _ (not_from_false (is_some (shadow e t u)) h) w)) in
+      let c : read_conflict e t p u ≡ true = and_from _ _ (not_from_false (eqb u t) (ne_eqb u t ne)) (and_from _ _ u_open (and_from _ _ (not_from_false (is_some (shadow e t u)) h) w)) in
       ap (λ z. is_some (shadow z t u)) (cond-true (read_conflict e t p u) (account e t u) e c)
-      ∙ account-there ar pages no_exempt e i t u ne t-in u-in (room_for_all ar pages no_exempt e i t u ne t-in u-in k))
+      ∙ account-there ar pages no_exempt e i t u ne t_in u_in (room_for_all ar pages no_exempt e i t u ne t_in u_in k))
       (cases_Bool (is_some (shadow e t u)))
 
   open_kept : (e e' : Engine) (u : ℕ) → e'.scripts ≡ e.scripts → is_open e u ≡ true → is_open e' u ≡ true
   open_kept e e' u same h = ap (λ xs. is_some (get_or xs u None)) same ∙ h
 
   account_reads-kept : (us : List ℕ) (e : Engine) (t p : ℕ) → t < 8 → is_open e t ≡ true → Inv ar pages no_exempt e → Before e t (account_reads e t p us)
-  account_reads-kept [] e t p t-in t_open i = before_same e t i
-  account_reads-kept (u ∷ us) e t p t-in t_open i =
-      let a = account_read-kept e t p u t-in t_open i in
+  account_reads-kept [] e t p t_in t_open i = before_same e t i
+  account_reads-kept (u ∷ us) e t p t_in t_open i =
+      let a = account_read-kept e t p u t_in t_open i in
       before_then e (account_read e t p u) _ t a
-      (account_reads-kept us (account_read e t p u) t p t-in (open_kept e (account_read e t p u) t a.scripts t_open) a.inv)
+      (account_reads-kept us (account_read e t p u) t p t_in (open_kept e (account_read e t p u) t a.scripts t_open) a.inv)
 
   account_reads-there : (us : List ℕ) (e : Engine) (t p : ℕ) → t < 8 → is_open e t ≡ true → Inv ar pages no_exempt e → e.allowance ≡ 8 → (u : ℕ) → In u us → u ≢ t → is_open e u ≡ true → has_written (lead_writes e u) p ≡ true → is_some (shadow (account_reads e t p us) t u) ≡ true
-  account_reads-there [] e t p t-in t_open i k u m ne u-open w = absurd m
-  account_reads-there (x ∷ us) e t p t-in t_open i k u m ne u-open w =
+  account_reads-there [] e t p t_in t_open i k u m ne u_open w = absurd m
+  account_reads-there (x ∷ us) e t p t_in t_open i k u m ne u_open w =
       let e₁ = account_read e t p x in
-      let a = account_read-kept e t p x t-in t_open i in
-      let t-open₁ = open_kept e e₁ t a.scripts t_open in
+      let a = account_read-kept e t p x t_in t_open i in
+      let t_is_open₁ = open_kept e e₁ t a.scripts t_open in
       ⊎_elim
       (λ (q : u ≡ x).
-      let now-there : is_some (shadow (account_read e t p u) t u) ≡ true = account_read-there e t p u t-in t_open i k ne u-open w in
-      (account_reads-kept us e₁ t p t-in t-open₁ a.inv).lasts t u (subst (λ y. is_some (shadow (account_read e t p y) t u) ≡ true) q now-there))
+      let now_there : is_some (shadow (account_read e t p u) t u) ≡ true = account_read-there e t p u t_in t_open i k ne u_open w in
+      (account_reads-kept us e₁ t p t_in t_is_open₁ a.inv).lasts t u (subst (λ y. is_some (shadow (account_read e t p y) t u) ≡ true) q now_there))
       (λ (q : In u us).
-      account_reads-there us e₁ t p t-in t-open₁ a.inv (a.allowance ∙ k) u q ne (open_kept e e₁ u a.scripts u-open) (ap (λ o. has_written (own_of o) p) (a.leads u) ∙ w))
+      account_reads-there us e₁ t p t_in t_is_open₁ a.inv (a.allowance ∙ k) u q ne (open_kept e e₁ u a.scripts u_open) (ap (λ o. has_written (own_of o) p) (a.leads u) ∙ w))
       m
 
   pub before_kept : (e : Engine) (t : ℕ) (sr : Option ℕ) → t < 8 → is_open e t ≡ true → Inv ar pages no_exempt e → Before e t (before_step e t sr)
-  before_kept e t None t-in t_open i = before_same e t i
-  before_kept e t (Some p) t-in t_open i = account_reads-kept slots e t p t-in t_open i
+  before_kept e t None t_in t_open i = before_same e t i
+  before_kept e t (Some p) t_in t_open i = account_reads-kept slots e t p t_in t_open i
 
   -- a leading shadow that has written anything is of an open slot
   writes_open : (e : Engine) → Inv ar pages no_exempt e → (u p : ℕ) → has_written (lead_writes e u) p ≡ true → is_open e u ≡ true
@@ -145,10 +145,10 @@ module _ (ar : Meaning) (pages : List ℕ) where
       by (Some s) q w = (i.rows u).for_open u s q
 
   pub before_there : (e : Engine) (t : ℕ) (sr : Option ℕ) → t < 8 → is_open e t ≡ true → Inv ar pages no_exempt e → e.allowance ≡ 8 → (u : ℕ) → u ≢ t → on_list (lead_writes e u) sr ≡ true → is_some (shadow (before_step e t sr) t u) ≡ true
-  before_there e t None t-in t_open i k u ne w = absurd (true≢false (sym w))
-  before_there e t (Some p) t-in t_open i k u ne w =
-      let u-open = writes_open e i u p w in
-      account_reads-there slots e t p t-in t_open i k u (in_slots u (open_within e i.sized u u-open)) ne u-open w
+  before_there e t None t_in t_open i k u ne w = absurd (true≢false (sym w))
+  before_there e t (Some p) t_in t_open i k u ne w =
+      let u_open = writes_open e i u p w in
+      account_reads-there slots e t p t_in t_open i k u (in_slots u (open_within e i.sized u u_open)) ne u_open w
 
   -- halfway through a write, nothing is promised of shadows for t whose reads name the page
   abbrev pub halfway : ℕ → Option ℕ → Exempt
@@ -168,19 +168,19 @@ module _ (ar : Meaning) (pages : List ℕ) where
   unread-halfway t wr rs h = sym (ap (λ b. b && read_named rs wr) (eq-eqb t t refl)) ∙ h
 
   -- the leading shadow moves
-  module _ (e : Engine) (i : Inv ar pages no_exempt e) (t : ℕ) (t-in : t < 8) (sc : Steps) (script : script_of e t ≡ Some sc) (l l' : Stand) (lead : shadow e t t ≡ Some l) (step : Next ar sc pages l l')
+  module _ (e : Engine) (i : Inv ar pages no_exempt e) (t : ℕ) (t_in : t < 8) (sc : Steps) (script : script_of e t ≡ Some sc) (l l' : Stand) (lead : shadow e t t ≡ Some l) (step : Next ar sc pages l l')
       (there : e.allowance ≡ 8 → (u : ℕ) → u ≢ t → on_list (lead_writes e u) (store_read (slice_get sc l.step) l) ≡ true → is_some (shadow e t u) ≡ true) where
     abbrev moved_on : Engine
     moved_on = with_shadow e t t (Some l')
 
     lead_now : shadow moved_on t t ≡ Some l'
-    lead_now = shadow_put e i.sized t t t-in t-in (Some l')
+    lead_now = shadow_put e i.sized t t t_in t_in (Some l')
 
     place : (w : ℕ) → w ≢ t → shadow moved_on t w ≡ shadow e t w
-    place = shadow_put_place e i.sized t t t-in t-in (Some l')
+    place = shadow_put_place e i.sized t t t_in t_in (Some l')
 
     other_writes : (u : ℕ) → u ≢ t → lead_writes moved_on u ≡ lead_writes e u
-    other_writes u ne = ap own_of (shadow_put_row e i.sized t t t-in t-in (Some l') u u ne)
+    other_writes u ne = ap own_of (shadow_put_row e i.sized t t t_in t_in (Some l') u u ne)
 
     is_lead : (w : ℕ) (y : Stand) → w ≡ t → shadow moved_on t w ≡ Some y → l' ≡ y
     is_lead w y q h = let z : Some l' ≡ Some y = sym lead_now ∙ ap (shadow moved_on t) (sym q) ∙ h in cc
@@ -191,7 +191,7 @@ module _ (ar : Meaning) (pages : List ℕ) where
         let x = stepped ar sc pages l l' step in
         let up : l.step < l'.step = x.move.rises in
         record {
-          few = subst (λ cs. count cs ≤ e.allowance) (sym (row_put e i.sized t t t-in t-in (Some l'))) (subst (λ n. n ≤ e.allowance) (sym (count_set (row e t) t l l' lead)) r.few);
+          few = subst (λ cs. count cs ≤ e.allowance) (sym (row_put e i.sized t t t_in t_in (Some l'))) (subst (λ n. n ≤ e.allowance) (sym (count_set (row e t) t l l' lead)) r.few);
           bare = λ h w. none_is_some sc (sym h ∙ script);
           led = λ z h. ap is_some lead_now;
           ends = r.ends;
@@ -225,13 +225,13 @@ module _ (ar : Meaning) (pages : List ℕ) where
         let r = i.rows v in
         let wr = write_of (slice_get sc l.step) l in
         let x = stepped ar sc pages l l' step in
-        let at : (w : ℕ) → shadow moved_on v w ≡ shadow e v w = λ w. shadow_put_row e i.sized t t t-in t-in (Some l') v w ne in
+        let at : (w : ℕ) → shadow moved_on v w ≡ shadow e v w = λ w. shadow_put_row e i.sized t t t_in t_in (Some l') v w ne in
         let before : lead_writes e t ≡ l.own = ap own_of lead in
-        let now-own : lead_writes moved_on t ≡ l'.own = ap own_of lead_now in
+        let now_own : lead_writes moved_on t ≡ l'.own = ap own_of lead_now in
         let grown : (rs : List ReadEntry) → has_read_any rs (lead_writes moved_on t) ≡ (has_read_any rs (lead_writes e t) || read_named rs wr) =
-        λ rs. ap (has_read_any rs) now-own ∙ read_any_more rs l.own l'.own wr x.move.own ∙ ap (λ es. has_read_any rs es || read_named rs wr) (sym before) in
+        λ rs. ap (has_read_any rs) now_own ∙ read_any_more rs l.own l'.own wr x.move.own ∙ ap (λ es. has_read_any rs es || read_named rs wr) (sym before) in
         record {
-          few = subst (λ cs. count cs ≤ e.allowance) (sym (row_put_other e i.sized t t t-in t-in (Some l') v ne)) r.few;
+          few = subst (λ cs. count cs ≤ e.allowance) (sym (row_put_other e i.sized t t t_in t_in (Some l') v ne)) r.few;
           bare = λ h w. at w ∙ r.bare h w;
           led = λ z h. ap is_some (at v) ∙ r.led z h;
           ends = r.ends;
@@ -256,7 +256,7 @@ module _ (ar : Meaning) (pages : List ℕ) where
 
     pub moved_inv : Inv ar pages (halfway t (write_of (slice_get sc l.step) l)) moved_on
     moved_inv = record {
-      sized = sized_put e i.sized t t t-in t-in (Some l');
+      sized = sized_put e i.sized t t t_in t_in (Some l');
       allowed = i.allowed;
       rows = λ v. ⊎_elim
           (λ (q : v ≡ t). subst (RowInv ar pages (halfway t (write_of (slice_get sc l.step) l)) moved_on) (sym q) (weaken (halfway t (write_of (slice_get sc l.step) l)) moved_on t own_row))
@@ -271,7 +271,7 @@ module _ (ar : Meaning) (pages : List ℕ) where
     pub allowance : e'.allowance ≡ e.allowance
 
   -- where a slot is in no conflict, nothing of its row was exempt
-  module _ (t p : ℕ) (t-in : t < 8) (e : Engine) (i : Inv ar pages (halfway t (Some p)) e) (t_open : is_open e t ≡ true) where
+  module _ (t p : ℕ) (t_in : t < 8) (e : Engine) (i : Inv ar pages (halfway t (Some p)) e) (t_open : is_open e t ≡ true) where
     own_full : RowInv ar pages no_exempt e t
     own_full =
         let r = i.rows t in
@@ -289,7 +289,7 @@ module _ (ar : Meaning) (pages : List ℕ) where
 
     -- neither the leading shadow's reads nor those of the shadow for t are exempt
     settled : (v : ℕ) → v ≢ t → ((y : Stand) → shadow e v t ≡ Some y → has_read y.reads p ≡ false) → ((a : Stand) → shadow e v v ≡ Some a → (has_read a.reads p ≡ false) ⊎ (is_some (shadow e v t) ≡ true)) → RowInv ar pages no_exempt e v
-    settled v ne shadow-ok lead-ok =
+    settled v ne shadow_ok lead_ok =
         let r = i.rows v in
         record {
           few = r.few;
@@ -300,14 +300,14 @@ module _ (ar : Meaning) (pages : List ℕ) where
           reached = r.reached;
           behind = r.behind;
           apart = λ w y d h k. ⊎_elim
-              (λ (q : w ≡ t). r.apart w y d h (subst (λ m. halfway t (Some p) m y.reads ≡ false) (sym q) (halfway-unread t (Some p) y.reads (shadow-ok y (ap (shadow e v) (sym q) ∙ h)))))
+              (λ (q : w ≡ t). r.apart w y d h (subst (λ m. halfway t (Some p) m y.reads ≡ false) (sym q) (halfway-unread t (Some p) y.reads (shadow_ok y (ap (shadow e v) (sym q) ∙ h)))))
               (λ (q : w ≡ t → ⊥). r.apart w y d h (halfway_other t (Some p) w y.reads q))
               (cases_eq w t);
           covered = λ m w a d h k c. ⊎_elim
               (λ (q : w ≡ t). ⊎_elim
               (λ (unread : has_read a.reads p ≡ false). r.covered m w a d h (subst (λ z. halfway t (Some p) z a.reads ≡ false) (sym q) (halfway-unread t (Some p) a.reads unread)) c)
               (λ (some : is_some (shadow e v t) ≡ true). ap (λ z. is_some (shadow e v z)) q ∙ some)
-              (lead-ok a h))
+              (lead_ok a h))
               (λ (q : w ≡ t → ⊥). r.covered m w a d h (halfway_other t (Some p) w a.reads q) c)
               (cases_eq w t);
         }
@@ -325,11 +325,11 @@ module _ (ar : Meaning) (pages : List ℕ) where
         let rest₂ = past (is_open e v) _ o rest in
         ⊎_elim
         (λ (unread : has_read (reads_of (shadow e v v)) p ≡ false).
-        let lead-unread : has_read lead.0.reads p ≡ false = sym (ap (λ z. has_read (reads_of z) p) lead.1) ∙ unread in
+        let lead_unread : has_read lead.0.reads p ≡ false = sym (ap (λ z. has_read (reads_of z) p) lead.1) ∙ unread in
         settled v q
         (λ y k. read_named_shrinks ar sc.0 pages (Some p)
         (reached_later ar sc.0 pages ((i.rows v).reached sc.0 t y sc.1 k) ((i.rows v).reached sc.0 v lead.0 sc.1 lead.1) ((i.rows v).behind t y lead.0 k lead.1))
-        lead-unread)
+        lead_unread)
         (λ a k. inl (sym (ap (λ z. has_read (reads_of z) p) k) ∙ unread)))
         (λ (none : (not (is_some (shadow e v t)) || has_read (reads_of (shadow e v t)) p) ≡ false).
         let parts = or_parts (not (is_some (shadow e v t))) (has_read (reads_of (shadow e v t)) p) none in
@@ -362,13 +362,13 @@ module _ (ar : Meaning) (pages : List ℕ) where
         ⊎_elim
         (λ (h : write_conflict e t p v ≡ true).
         let f = write_conflict_facts v h in
-        let v-in = open_within e i.sized v f.1 in
+        let v_in = open_within e i.sized v f.1 in
         let ne : t ≢ v = λ z. f.0 (sym z) in
-        let a = accounted ar pages (halfway t (Some p)) e i v t ne v-in t-in in
-        let full = account-row ar pages (halfway t (Some p)) e i v t ne v-in t-in no_exempt (λ w rs d z. halfway_other t (Some p) w rs d) f.1 t_open in
+        let a = accounted ar pages (halfway t (Some p)) e i v t ne v_in t_in in
+        let full = account-row ar pages (halfway t (Some p)) e i v t ne v_in t_in no_exempt (λ w rs d z. halfway_other t (Some p) w rs d) f.1 t_open in
         subst (Settles v) (sym (cond-true (write_conflict e t p v) (account e v t) e h)) (record {
           kept = record { leads = a.leads; scripts = a.scripts; allowance = a.allowance };
-          inv = account_inv ar pages (halfway t (Some p)) e i v t ne v-in t-in f.1 t_open;
+          inv = account_inv ar pages (halfway t (Some p)) e i v t ne v_in t_in f.1 t_open;
           full = full;
           lasts = λ w r. ⊎_elim
               (λ (q : w ≡ v). subst (RowInv ar pages no_exempt (account e v t)) (sym q) full)
@@ -384,7 +384,7 @@ module _ (ar : Meaning) (pages : List ℕ) where
         }))
         (cases_Bool (write_conflict e t p v))
 
-  module _ (t p : ℕ) (t-in : t < 8) where
+  module _ (t p : ℕ) (t_in : t < 8) where
     record AllSettled (e : Engine) (vs : List ℕ) (e' : Engine) : Type 0 where
       kept : After e e'
       inv : Inv ar pages (halfway t (Some p)) e'
@@ -394,7 +394,7 @@ module _ (ar : Meaning) (pages : List ℕ) where
     all_settle : (vs : List ℕ) (e : Engine) → Inv ar pages (halfway t (Some p)) e → is_open e t ≡ true → AllSettled e vs (account_writes e t p vs)
     all_settle [] e i t_open = record { kept = record { leads = λ w. refl; scripts = refl; allowance = refl }; inv = i; full = λ v m. absurd m; lasts = λ w r. r }
     all_settle (v ∷ vs) e i t_open =
-        let one = settles t p t-in e i t_open v in
+        let one = settles t p t_in e i t_open v in
         let rest = all_settle vs (account_write e t p v) one.inv (open_kept e (account_write e t p v) t one.kept.scripts t_open) in
         record {
           kept = record {
@@ -420,7 +420,7 @@ module _ (ar : Meaning) (pages : List ℕ) where
         }
 
   after_inv : (t : ℕ) (wr : Option ℕ) (e : Engine) → t < 8 → Inv ar pages (halfway t wr) e → is_open e t ≡ true → Inv ar pages no_exempt (after_step e t wr)
-  after_inv t None e t-in i t_open = record {
+  after_inv t None e t_in i t_open = record {
     sized = i.sized;
     allowed = i.allowed;
     rows = λ v. row_like ar pages (halfway t None) no_exempt e e v refl refl refl (λ u d. refl) (λ u rs h. halfway_nothing u rs) (i.rows v);
@@ -432,38 +432,38 @@ module _ (ar : Meaning) (pages : List ℕ) where
           never : (b : Bool) → (b && false) ≡ false
           never true = refl
           never false = refl
-  after_inv t (Some p) e t-in i t_open = written_inv t p t-in e i t_open
+  after_inv t (Some p) e t_in i t_open = written_inv t p t_in e i t_open
 
   -- a turn of a leading shadow
   pub lead_moves_inv : (e : Engine) → Inv ar pages no_exempt e → (t : ℕ) (sc : Steps) (l l' : Stand) → script_of e t ≡ Some sc → shadow e t t ≡ Some l → Next ar sc pages l l' → Inv ar pages no_exempt (lead_moves e t sc l l')
   lead_moves_inv e i t sc l l' script lead step =
       let t_open : is_open e t ≡ true = ap is_some script in
-      let t-in = open_within e i.sized t t_open in
+      let t_in = open_within e i.sized t t_open in
       let sr = store_read (slice_get sc l.step) l in
       let e₁ = before_step e t sr in
-      let b = before_kept e t sr t-in t_open i in
+      let b = before_kept e t sr t_in t_open i in
       let script₁ : script_of e₁ t ≡ Some sc = ap (λ xs. get_or xs t None) b.scripts ∙ script in
-      let m = moved_inv e₁ b.inv t t-in sc script₁ l l' (b.leads t ∙ lead) step
-      (λ k u ne c. before_there e t sr t-in t_open i (sym b.allowance ∙ k) u ne (ap (λ o. on_list (own_of o) sr) (sym (b.leads u)) ∙ c)) in
-      after_inv t (write_of (slice_get sc l.step) l) (with_shadow e₁ t t (Some l')) t-in m (ap is_some script₁)
+      let m = moved_inv e₁ b.inv t t_in sc script₁ l l' (b.leads t ∙ lead) step
+      (λ k u ne c. before_there e t sr t_in t_open i (sym b.allowance ∙ k) u ne (ap (λ o. on_list (own_of o) sr) (sym (b.leads u)) ∙ c)) in
+      after_inv t (write_of (slice_get sc l.step) l) (with_shadow e₁ t t (Some l')) t_in m (ap is_some script₁)
 
   -- a turn of another shadow
   pub shadow_moves_inv : (e : Engine) → Inv ar pages no_exempt e → (t u : ℕ) (sc : Steps) (s s' : Stand) → u ≢ t → script_of e t ≡ Some sc → shadow e t u ≡ Some s → waits e t u sc s ≡ false → Next ar sc pages s s' → Inv ar pages no_exempt (with_shadow e t u (Some s'))
-  shadow_moves_inv e i t u sc s s' ne script here-now free step =
+  shadow_moves_inv e i t u sc s s' ne script here_now free step =
       let r = i.rows t in
-      let in_both = shadow-within e i.sized t u s here-now in
+      let in_both = shadow-within e i.sized t u s here_now in
       let lead = some_is (shadow e t t) (r.led sc script) in
       let parts = or_parts (leb (place_of (shadow e t t)) s.step) (on_list (lead_writes e u) (store_read (slice_get sc s.step) s)) free in
       let below : s.step < lead.0.step = leb-false lead.0.step s.step (ap (λ o. leb (place_of o) s.step) (sym lead.1) ∙ parts.0) in
-      let s-reached = r.reached sc u s script here-now in
-      let ahead = reached_later ar sc pages s-reached (r.reached sc t lead.0 script lead.1) (omega arith) in
+      let s_reached = r.reached sc u s script here_now in
+      let ahead = reached_later ar sc pages s_reached (r.reached sc t lead.0 script lead.1) (omega arith) in
       let x = stepped ar sc pages s s' step in
       let o = store_read (slice_get sc s.step) s in
-      fork_inv ar pages no_exempt e i t u ne in_both.0 in_both.1 s' (ap is_some script) (r.for_open u s here-now) (record {
-        reached = λ z h. let same : sc ≡ z = let m : Some sc ≡ Some z = sym script ∙ h in cc in subst (λ a. Leads ar a pages start s') same (leads_snoc ar sc pages s' s-reached step);
+      fork_inv ar pages no_exempt e i t u ne in_both.0 in_both.1 s' (ap is_some script) (r.for_open u s here_now) (record {
+        reached = λ z h. let same : sc ≡ z = let m : Some sc ≡ Some z = sym script ∙ h in cc in subst (λ a. Leads ar a pages start s') same (leads_snoc ar sc pages s' s_reached step);
         behind = λ l h. let same : lead.0 ≡ l = let m : Some lead.0 ≡ Some l = sym lead.1 ∙ h in cc in subst (λ a. s'.step ≤ a.step) same (not_past lead.0 ahead below);
-        unread = ap (λ rs. has_read_any rs (lead_writes e u)) x.move.reads ∙ read_any_append s.reads (noted s.step o) (lead_writes e u) ∙ or_from (has_read_any s.reads (lead_writes e u)) (has_read_any (noted s.step o) (lead_writes e u)) (r.apart u s ne here-now refl) (noted_any s.step o (lead_writes e u) ∙ parts.1);
-        room = subst (λ n. n ≤ e.allowance) (sym (count_set (row e t) u s s' here-now)) r.few;
+        unread = ap (λ rs. has_read_any rs (lead_writes e u)) x.move.reads ∙ read_any_append s.reads (noted s.step o) (lead_writes e u) ∙ or_from (has_read_any s.reads (lead_writes e u)) (has_read_any (noted s.step o) (lead_writes e u)) (r.apart u s ne here_now refl) (noted_any s.step o (lead_writes e u) ∙ parts.1);
+        room = subst (λ n. n ≤ e.allowance) (sym (count_set (row e t) u s s' here_now)) r.few;
       })
     where
       -- the next stand of one behind the leading shadow is not past it

@@ -129,10 +129,10 @@ module _ (test : Stand → Bool) where
   all_seen all [] k best at so = subst (λ n. SoFar all n best) (let e : k ≡ k + 0 = omega arith in e) so
   all_seen all (c ∷ cs) k best at so =
       let first : c ≡ get_or all k None = at 0 ∙ ap (λ n. get_or all n None) (let e : k + 0 ≡ k = omega arith in e) in
-      let next-so = subst (λ o. SoFar all (suc k) (better test best o)) (sym first) (more all k best so) in
+      let next_so = subst (λ o. SoFar all (suc k) (better test best o)) (sym first) (more all k best so) in
       let e : suc k + length cs ≡ k + suc (length cs) = omega arith in
       subst (λ n. SoFar all n (furthest test (better test best c) cs)) e
-      (all_seen all cs (suc k) (better test best c) (λ i. at (suc i) ∙ ap (λ n. get_or all n None) (let z : k + suc i ≡ suc k + i = omega arith in z)) next-so)
+      (all_seen all cs (suc k) (better test best c) (λ i. at (suc i) ∙ ap (λ n. get_or all n None) (let z : k + suc i ≡ suc k + i = omega arith in z)) next_so)
 
   pub furthest_so : (t : ℕ) (cs : Row) → Furthest test t cs (furthest_of test t cs)
   furthest_so t cs = told (furthest_of test t cs) (all_seen (get_or cs t None ∷ cs) (get_or cs t None ∷ cs) 0 None (λ i. ap (λ n. get_or (get_or cs t None ∷ cs) n None) (let e : i ≡ 0 + i = omega arith in e)) (λ w y l e. absurd (omega arith)))
@@ -176,20 +176,20 @@ remaining-furthest own v cs (Some s) h =
     (h.0, was.0, not_from_false (has_read_any s.reads own) was.1, λ w y e p. h.3 w y (remaining_at own cs w ∙ ap (kept own) e ∙ kept-unread own y (not-true (has_read_any y.reads own) p)) refl)
 
 commits_so : (e : Engine) → Holds e → (t : ℕ) → t < 8 → (own : List WriteEntry) → CommitsSo e t own (committed e t own)
-commits_so e o t t-in own = record {
-  closes = (script-there e o.sized t t-in own, none_of e o.sized t t-in own);
-  none_for = λ v. ⊎_elim (λ (q : v ≡ t). ap (λ m. shadow (committed e t own) m t) q ∙ none_of e o.sized t t-in own t) (λ (q : v ≡ t → ⊥). none_for e o.sized t t-in own v q) (cases_eq v t);
-  scripts = script_other e o.sized t t-in own;
-  keeps = λ v u s a b d h r. others_kept e o.sized t t-in own v u a b d ∙ ap (kept own) h ∙ kept-unread own s (not-true (has_read_any s.reads own) r);
+commits_so e o t t_in own = record {
+  closes = (script-there e o.sized t t_in own, none_of e o.sized t t_in own);
+  none_for = λ v. ⊎_elim (λ (q : v ≡ t). ap (λ m. shadow (committed e t own) m t) q ∙ none_of e o.sized t t_in own t) (λ (q : v ≡ t → ⊥). none_for e o.sized t t_in own v q) (cases_eq v t);
+  scripts = script_other e o.sized t t_in own;
+  keeps = λ v u s a b d h r. others_kept e o.sized t t_in own v u a b d ∙ ap (kept own) h ∙ kept-unread own s (not-true (has_read_any s.reads own) r);
   only_keeps = λ v u s a d h. ⊎_elim
-      (λ (q : u ≡ t). none_is_some s (sym (none_for e o.sized t t-in own v a) ∙ ap (shadow (committed e t own) v) (sym q) ∙ h))
-      (λ (q : u ≡ t → ⊥). let w = kept_was own (shadow e v u) s (sym (others_kept e o.sized t t-in own v u a q d) ∙ h) in (w.0, not_from_false (has_read_any s.reads own) w.1))
+      (λ (q : u ≡ t). none_is_some s (sym (none_for e o.sized t t_in own v a) ∙ ap (shadow (committed e t own) v) (sym q) ∙ h))
+      (λ (q : u ≡ t → ⊥). let w = kept_was own (shadow e v u) s (sym (others_kept e o.sized t t_in own v u a q d) ∙ h) in (w.0, not_from_false (has_read_any s.reads own) w.1))
       (cases_eq u t);
-  lead_stays = λ v l a h r. lead_stays e o.sized t t-in own v l a h (not-true (has_read_any l.reads own) r);
+  lead_stays = λ v l a h r. lead_stays e o.sized t t_in own v l a h (not-true (has_read_any l.reads own) r);
   spoiled = λ v l a h r.
       let so = picks_furthest any_shadow v (remaining own (row e v)) in
-      let now-leads = lead_renewed e o.sized t t-in own v l a h (not-false (has_read_any l.reads own) r) in
-      leads_from v (furthest_of any_shadow v (remaining own (row e v))) (remaining-furthest own v (row e v) (furthest_of any_shadow v (remaining own (row e v))) so) now-leads;
+      let now_leads = lead_renewed e o.sized t t_in own v l a h (not-false (has_read_any l.reads own) r) in
+      leads_from v (furthest_of any_shadow v (remaining own (row e v))) (remaining-furthest own v (row e v) (furthest_of any_shadow v (remaining own (row e v))) so) now_leads;
 }
   where
     leads_from : (v : ℕ) (x : Option Stand) → Furthest (unread own) v (row e v) x → shadow (committed e t own) v v ≡ Some (unwrap_or x start) → (s : Stand) × (shadow (committed e t own) v v ≡ Some s) × (Furthest (unread own) v (row e v) (Some s) ⊎ ((s ≡ start) × Furthest (unread own) v (row e v) None))
@@ -199,20 +199,20 @@ commits_so e o t t-in own = record {
 pub commits_in_words : CommitsInWords
 commits_in_words ar s t r n lead sound accepted h =
     let o = ok_from s.engine sound in
-    let t-in = (shadow-within s.engine o.sized t t lead h).0 in
+    let t_in = (shadow-within s.engine o.sized t t lead h).0 in
     let left = commit-leaves ar s t r n lead h accepted in
-    (subst (CommitsSo s.engine t lead.own) (ap (λ z. z.engine) (sym left)) (commits_so s.engine o t t-in lead.own), ap (λ z. z.pages) left)
+    (subst (CommitsSo s.engine t lead.own) (ap (λ z. z.engine) (sym left)) (commits_so s.engine o t t_in lead.own), ap (λ z. z.pages) left)
 
 -- accounting changes one place at most
 account_other : (e : Engine) → Holds e → (t u : ℕ) → is_open e t ≡ true → is_open e u ≡ true → (v w : ℕ) → (v ≡ t → w ≡ u → ⊥) → shadow (account e t u) v w ≡ shadow e v w
-account_other e o t u t_open u-open v w d =
-    let t-in = open_within e o.sized t t_open in
-    let u-in = open_within e o.sized u u-open in
+account_other e o t u t_open u_open v w d =
+    let t_in = open_within e o.sized t t_open in
+    let u_in = open_within e o.sized u u_open in
     let x = Some (unwrap_or (furthest_of (clean e u) t (row e t)) start) in
     cond_both (has_room e t u) (with_shadow e t u x) e (λ z. shadow z v w ≡ shadow e v w)
     (λ h. ⊎_elim
-    (λ (q : v ≡ t). subst (λ m. shadow (with_shadow e t u x) m w ≡ shadow e m w) (sym q) (shadow_put_place e o.sized t u t-in u-in x w (d q)))
-    (λ (q : v ≡ t → ⊥). shadow_put_row e o.sized t u t-in u-in x v w q)
+    (λ (q : v ≡ t). subst (λ m. shadow (with_shadow e t u x) m w ≡ shadow e m w) (sym q) (shadow_put_place e o.sized t u t_in u_in x w (d q)))
+    (λ (q : v ≡ t → ⊥). shadow_put_row e o.sized t u t_in u_in x v w q)
     (cases_eq v t))
     (λ h. refl)
 
@@ -236,7 +236,7 @@ reads-besides (u ∷ us) e t p o t_open v w d =
     d q ne (ap (is_open e) r ∙ b.0) (ap (shadow e t) r ∙ none_is (shadow e t u) (not-true (is_some (shadow e t u)) c.0)) (ap (λ m. has_written (lead_writes e m) p) r ∙ c.1)))
     (λ h. refl) in
     reads-besides us e₁ t p one.ok (open_same e e₁ t one.scripts t_open) v w
-    (λ q ne w-open gone wrote. d q ne (open_same e₁ e w (sym one.scripts) w-open) (subst (λ m. shadow e m w ≡ None) q (sym same ∙ subst (λ m. shadow e₁ m w ≡ None) (sym q) gone)) (ap (λ z. has_written (own_of z) p) (sym (one.leads w)) ∙ wrote))
+    (λ q ne w_open gone wrote. d q ne (open_same e₁ e w (sym one.scripts) w_open) (subst (λ m. shadow e m w ≡ None) q (sym same ∙ subst (λ m. shadow e₁ m w ≡ None) (sym q) gone)) (ap (λ z. has_written (own_of z) p) (sym (one.leads w)) ∙ wrote))
     ∙ same
 
 -- a slot's shadow for t is not there, or has read the page
@@ -259,21 +259,21 @@ writes_besides (x ∷ vs) e t p o t_open v w d =
     d r (λ z. eqb-false x t (not-true (eqb x t) a.0) (sym q ∙ z)) (ap (is_open e) q ∙ b.0) (ap (λ m. has_read (reads_of (shadow e m m)) p) q ∙ c.0) (subst (Due e t p) (sym q) due)))
     (λ h. refl) in
     writes_besides vs e₁ t p one.ok (open_same e e₁ t one.scripts t_open) v w
-    (λ q ne v-open read due.
-    let same-t : shadow e₁ v t ≡ shadow e v t = subst (λ m. shadow e₁ v m ≡ shadow e v m) q same in
-    d q ne (open_same e₁ e v (sym one.scripts) v-open) (ap (λ z. has_read (reads_of z) p) (sym (one.leads v)) ∙ read)
-    (⊎_elim (λ (z : shadow e₁ v t ≡ None). inl (sym same-t ∙ z)) (λ (z : has_read (reads_of (shadow e₁ v t)) p ≡ true). inr (ap (λ y. has_read (reads_of y) p) (sym same-t) ∙ z)) due))
+    (λ q ne v_open read due.
+    let same_t : shadow e₁ v t ≡ shadow e v t = subst (λ m. shadow e₁ v m ≡ shadow e v m) q same in
+    d q ne (open_same e₁ e v (sym one.scripts) v_open) (ap (λ z. has_read (reads_of z) p) (sym (one.leads v)) ∙ read)
+    (⊎_elim (λ (z : shadow e₁ v t ≡ None). inl (sym same_t ∙ z)) (λ (z : has_read (reads_of (shadow e₁ v t)) p ≡ true). inr (ap (λ y. has_read (reads_of y) p) (sym same_t) ∙ z)) due))
     ∙ same
 
 before_besides : (e : Engine) (t : ℕ) (sr : Option ℕ) → Holds e → is_open e t ≡ true → (v w : ℕ)
     → ((v ≡ t) → (w ≢ t) → is_open e w ≡ true → shadow e t w ≡ None → ((p : ℕ) × (sr ≡ Some p) × (has_written (lead_writes e w) p ≡ true)) → ⊥) → shadow (before_step e t sr) v w ≡ shadow e v w
 before_besides e t None o t_open v w d = refl
-before_besides e t (Some p) o t_open v w d = reads-besides slots e t p o t_open v w (λ q ne w-open gone wrote. d q ne w-open gone (p, refl, wrote))
+before_besides e t (Some p) o t_open v w d = reads-besides slots e t p o t_open v w (λ q ne w_open gone wrote. d q ne w_open gone (p, refl, wrote))
 
 after-besides : (e : Engine) (t : ℕ) (wr : Option ℕ) → Holds e → is_open e t ≡ true → (v w : ℕ)
     → ((w ≡ t) → (v ≢ t) → is_open e v ≡ true → ((p : ℕ) × (wr ≡ Some p) × (has_read (reads_of (shadow e v v)) p ≡ true) × Due e t p v) → ⊥) → shadow (after_step e t wr) v w ≡ shadow e v w
 after-besides e t None o t_open v w d = refl
-after-besides e t (Some p) o t_open v w d = writes_besides slots e t p o t_open v w (λ q ne v-open read due. d q ne v-open (p, refl, read, due))
+after-besides e t (Some p) o t_open v w d = writes_besides slots e t p o t_open v w (λ q ne v_open read due. d q ne v_open (p, refl, read, due))
 
 -- the allowance stays
 reads-allowance : (us : List ℕ) (e : Engine) (t p : ℕ) → (account_reads e t p us).allowance ≡ e.allowance
@@ -307,29 +307,29 @@ lead_so ar st o t sc s to script lead step =
     let e₁ = before_step e t sr in
     let e₂ = with_shadow e₁ t t (Some to) in
     let t_open : is_open e t ≡ true = ap is_some script in
-    let t-in = open_within e o.sized t t_open in
+    let t_in = open_within e o.sized t t_open in
     let b = before_stays e t sr o t_open in
     let script₁ : script_of e₁ t ≡ Some sc = ap (λ xs. get_or xs t None) b.scripts ∙ script in
     let lead₁ : shadow e₁ t t ≡ Some s = b.leads t ∙ lead in
     let fits = next_fits ar sc st.pages s to (o.scripts t sc script).1 step (o.shadows t t sc s script lead) in
-    let ok₂ = put_ok e₁ b.ok t t t-in t-in sc script₁ (ap is_some script₁) to fits (let few = b.ok.few t in omega (arith, count_set (row e₁ t) t s to lead₁)) in
-    let now-there : shadow e₂ t t ≡ Some to = shadow_put e₁ b.ok.sized t t t-in t-in (Some to) in
+    let ok₂ = put_ok e₁ b.ok t t t_in t_in sc script₁ (ap is_some script₁) to fits (let few = b.ok.few t in omega (arith, count_set (row e₁ t) t s to lead₁)) in
+    let now_there : shadow e₂ t t ≡ Some to = shadow_put e₁ b.ok.sized t t t_in t_in (Some to) in
     record {
       to = to;
       step = step;
-      named = after-besides e₂ t wr ok₂ (ap is_some script₁) t t (λ q ne _ _. ne refl) ∙ now-there;
+      named = after-besides e₂ t wr ok₂ (ap is_some script₁) t t (λ q ne _ _. ne refl) ∙ now_there;
       besides = λ v w d free.
           let mid : (x y : ℕ) → (x ≡ t → y ≡ t → ⊥) → shadow e₂ x y ≡ shadow e₁ x y = λ x y c. ⊎_elim
-          (λ (q : x ≡ t). subst (λ m. shadow e₂ m y ≡ shadow e₁ m y) (sym q) (shadow_put_place e₁ b.ok.sized t t t-in t-in (Some to) y (c q)))
-          (λ (q : x ≡ t → ⊥). shadow_put_row e₁ b.ok.sized t t t-in t-in (Some to) x y q)
+          (λ (q : x ≡ t). subst (λ m. shadow e₂ m y ≡ shadow e₁ m y) (sym q) (shadow_put_place e₁ b.ok.sized t t t_in t_in (Some to) y (c q)))
+          (λ (q : x ≡ t → ⊥). shadow_put_row e₁ b.ok.sized t t t_in t_in (Some to) x y q)
           (cases_eq x t) in
           -- rows other than t's are as they were before the move
           let rest : (x y : ℕ) → x ≢ t → shadow e₂ x y ≡ shadow e x y = λ x y c. mid x y (λ q _. c q) ∙ before_besides e t sr o t_open x y (λ q _ _ _ _. c q) in
           after-besides e₂ t wr ok₂ (ap is_some script₁) v w
-          (λ q ne v-open x. free refl (inr (
+          (λ q ne v_open x. free refl (inr (
             q,
             ne,
-            open_same e₁ e v (sym b.scripts) v-open,
+            open_same e₁ e v (sym b.scripts) v_open,
             (
               x.0,
               x.1,
@@ -338,7 +338,7 @@ lead_so ar st o t sc s to script lead step =
             ),
           )))
           ∙ mid v w d
-          ∙ before_besides e t sr o t_open v w (λ q ne w-open gone x. free refl (inl (q, ne, w-open, gone, x)));
+          ∙ before_besides e t sr o t_open v w (λ q ne w_open gone x. free refl (inl (q, ne, w_open, gone, x)));
       scripts = moves-scripts_lead e t sc s to;
       allowance = moves-allowance_lead e t sc s to;
     }
@@ -372,7 +372,7 @@ moves_so ar st o t u sc s to script h step =
 
 -- a turn comes to what its shadow's standing says
 pub turn_at : (ar : Meaning) (s : State) (t u : ℕ) (sc : Steps) (at : Stand) → t < 8 → u < 8 → script_of s.engine t ≡ Some sc → shadow s.engine t u ≡ Some at → does ar (turn t u) s ≡ turn_standing ar s t u sc at (standing s.engine t u sc at)
-turn_at ar s t u sc at t-in u-in script h =
+turn_at ar s t u sc at t_in u_in script h =
     cond-true (leb t 7) (in_range s u (turn_open ar s t u (script_of s.engine t))) _ (le-leb t 7 (omega arith))
     ∙ cond-true (leb u 7) (turn_open ar s t u (script_of s.engine t)) _ (le-leb u 7 (omega arith))
     ∙ ap (turn_open ar s t u) script ∙ ap (turn_shadow ar s t u sc) h
@@ -381,8 +381,8 @@ pub turns_in_words : TurnsInWords
 turns_in_words ar s t u sc at sound script h accepted =
     let o = ok_from s.engine sound in
     let in_both = shadow-within s.engine o.sized t u at h in
-    let to-standing = turn_at ar s t u sc at in_both.0 in_both.1 script h in
-    subst Said (sym to-standing) (by_standing o (standing s.engine t u sc at)) accepted
+    let to_standing = turn_at ar s t u sc at in_both.0 in_both.1 script h in
+    subst Said (sym to_standing) (by_standing o (standing s.engine t u sc at)) accepted
   where
     Said : Done → Type 0
     Said d = d.1 ≡ Took Moved → TurnsSo ar s t u sc at d.0.engine × (d.0.pages ≡ s.pages)
@@ -457,10 +457,10 @@ declined_changes_nothing ar c s f h = unchanged ar s f c h
 
 -- accounting, in words
 pub accounts_in_words : AccountsInWords
-accounts_in_words e t u sound t_open u-open =
+accounts_in_words e t u sound t_open u_open =
     let o = ok_from e sound in
-    let t-in = open_within e o.sized t t_open in
-    let u-in = open_within e o.sized u u-open in
+    let t_in = open_within e o.sized t t_open in
+    let u_in = open_within e o.sized u u_open in
     let forked = Some (unwrap_or (furthest_of (clean e u) t (row e t)) start) in
     record {
       room = λ h.
@@ -468,10 +468,10 @@ accounts_in_words e t u sound t_open u-open =
           (λ (a : is_some (shadow e t u) ≡ true). or_left (is_some (shadow e t u)) (ltb (count (row e t)) e.allowance) a)
           (λ (a : count (row e t) < e.allowance). or_right (is_some (shadow e t u)) (ltb (count (row e t)) e.allowance) (lt-ltb (count (row e t)) e.allowance a))
           h in
-          let now-there : shadow (account e t u) t u ≡ forked = ap (λ z. shadow z t u) (cond-true (has_room e t u) (with_shadow e t u forked) e fits) ∙ shadow_put e o.sized t u t-in u-in forked in
-          from_furthest (furthest_of (clean e u) t (row e t)) (picks_furthest (clean e u) t (row e t)) now-there;
+          let now_there : shadow (account e t u) t u ≡ forked = ap (λ z. shadow z t u) (cond-true (has_room e t u) (with_shadow e t u forked) e fits) ∙ shadow_put e o.sized t u t_in u_in forked in
+          from_furthest (furthest_of (clean e u) t (row e t)) (picks_furthest (clean e u) t (row e t)) now_there;
       no_room = λ none full. cond-false (has_room e t u) (with_shadow e t u forked) e (or_from (is_some (shadow e t u)) (ltb (count (row e t)) e.allowance) (ap is_some none) (le-ltb (count (row e t)) e.allowance full));
-      besides = account_other e o t u t_open u-open;
+      besides = account_other e o t u t_open u_open;
       scripts = cond_both (has_room e t u) (with_shadow e t u forked) e (λ z. z.scripts ≡ e.scripts) (λ h. refl) (λ h. refl);
       allowance = account-allowance e t u;
     }
