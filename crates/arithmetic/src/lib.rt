@@ -2,7 +2,7 @@
 #![tactic(auto)]
 
 ghost use Rattle.std.specs.Prelude.{◌≡◌, ℕ};
-ghost use Rattle.arithmetic.specs.Words.{counters, flags, delivered, from_number, number};
+ghost use Rattle.arithmetic.specs.Words.{counters, flags, delivered, operation_told, number};
 ghost use Rattle.arithmetic.specs.declared.Operation.{Operation};
 
 // One of the three operations that every arithmetic gives a meaning to, numbered 0, 1 and 2.
@@ -13,23 +13,32 @@ pub enum Operation {
     Two,
 }
 
-impl Operation {
-    // The operation with this number, where there is one.
-    pub fn from_number(n: u32) -> Option<Operation>
-        ensures { result ≡ from_number n }
-    {
-        match n {
-            0 => Some(Operation::Zero),
-            1 => Some(Operation::One),
-            2 => Some(Operation::Two),
-            _ => None,
+// A number that names no operation.
+#[derive(Clone, Copy, PartialEq, Eq, Debug)]
+pub struct UnknownOperation {
+    pub number: u32,
+}
+
+impl TryFrom<u32> for Operation {
+    type Error = UnknownOperation;
+
+    ghost try_from_gives = { λ n r. r ≡ operation_told n };
+
+    fn try_from(number: u32) -> Result<Operation, UnknownOperation> {
+        match number {
+            0 => Ok(Operation::Zero),
+            1 => Ok(Operation::One),
+            2 => Ok(Operation::Two),
+            _ => Err(UnknownOperation { number }),
         }
     }
+}
 
-    pub fn number(self) -> u32
-        ensures { result ≡ number self }
-    {
-        match self {
+impl From<Operation> for u32 {
+    ghost from_gives = { λ operation n. n ≡ number operation };
+
+    fn from(operation: Operation) -> u32 {
+        match operation {
             Operation::Zero => 0,
             Operation::One => 1,
             Operation::Two => 2,

@@ -7,18 +7,14 @@ ghost use Rattle.basics.specs.Bytes.{word_at};
 
 mod trail;
 
-pub use trail::{ROOM, Trail};
+pub use trail::{Full, Trail};
 
 // The number in the four bytes from `at` on, most significant first, where all four are there.
 pub fn word_at(bytes: &[u8], at: usize) -> Option<u32>
     ensures { result ≡ word_at bytes.now at }
 {
-    let len = bytes.len();
-    if at < len && len - at >= 4 {
-        Some(u32::from_be_bytes([bytes[at], bytes[at + 1], bytes[at + 2], bytes[at + 3]]))
-    } else {
-        None
-    }
+    let four = bytes.get(at..)?.first_chunk::<4>()?;
+    Some(u32::from_be_bytes(*four))
 }
 
 // Why a call is declined: a number, and values that tell more. `cause` and `returned` are their definitions.

@@ -1,43 +1,41 @@
 // A list with fixed room, copied by value: a controller has no heap to run out of.
-ghost use Rattle.std.specs.Prelude.{◌≡◌, ◌≤◌, [], length, nat_lt, slice_set};
+ghost use Rattle.std.specs.Prelude.{◌≡◌, ◌≤◌, [], length, slice_set};
 ghost use Rattle.std.specs.List.{slice_get};
-ghost use Rattle.basics.specs.Trail.{items_of, pushed};
+ghost use Rattle.basics.specs.Trail.{items_of, pushed, push_told};
 
-// How many items there is room for.
-pub const ROOM: usize = 16;
+// Why an item is not taken in: there is no room left.
+#[derive(Clone, Copy, PartialEq, Eq, Debug)]
+pub struct Full;
 
+// At most `N` items. What lies past them is never spoken of. The length has no invariant beside it, which would forbid the
+// derives: no call looks past `N`.
 #[derive(Clone, Copy, Debug)]
-pub struct Trail<T> {
-    items: [T; ROOM],
+pub struct Trail<T, const N: usize> {
+    items: [T; N],
     len: usize,
 }
 
-impl<T: Copy> Trail<T> {
+impl<T: Copy, const N: usize> Trail<T, N> {
     // An empty list. `unused` fills the room.
-    pub fn new(unused: T) -> Trail<T>
+    pub fn new(unused: T) -> Trail<T, N>
         ensures { items_of result ≡ [] }
     {
         Trail {
-            items: [unused; ROOM],
+            items: [unused; N],
             len: 0,
         }
     }
 
     pub fn as_slice(&self) -> &[T]
         ensures items { result.now ≡ items_of self.now }
-        ensures few { length result.now ≤ 16 }
+        ensures few { length result.now ≤ N }
     {
-        let all = &self.items[..];
-        if self.len < ROOM {
-            &all[0..self.len]
-        } else {
-            all
-        }
+        &self.items[..self.len.min(N)]
     }
 
     pub fn len(&self) -> usize
         ensures count { result ≡ length (items_of self.now) }
-        ensures few { result ≤ 16 }
+        ensures few { result ≤ N }
     {
         self.as_slice().len()
     }
@@ -45,26 +43,21 @@ impl<T: Copy> Trail<T> {
     pub fn get(&self, index: usize) -> Option<T>
         ensures { result ≡ slice_get (items_of self.now) index }
     {
-        let all = self.as_slice();
-        if index < all.len() {
-            Some(all[index])
-        } else {
-            None
-        }
+        self.as_slice().get(index).copied()
     }
 
-    // One more item at the end; false, and nothing changed, where there is no room.
-    pub fn push(&mut self, item: T) -> bool
-        ensures told { result ≡ nat_lt (length (items_of self.old)) 16 }
-        ensures items { items_of self.new ≡ pushed (items_of self.old) item }
+    // One more item at the end; nothing changes where there is no room.
+    pub fn push(&mut self, item: T) -> Result<(), Full>
+        ensures told { result ≡ push_told N (items_of self.old) }
+        ensures items { items_of self.new ≡ pushed N (items_of self.old) item }
     {
         let at = self.len();
-        if at >= ROOM {
-            return false;
+        if at == N {
+            return Err(Full);
         }
         self.items[at] = item;
         self.len = at + 1;
-        true
+        Ok(())
     }
 
     // Another item in the place of the one at `index`; past the end nothing changes.

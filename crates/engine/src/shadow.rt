@@ -6,7 +6,7 @@ ghost use Rattle.engine.specs.View.{stand_of, Placed};
 
 use basics::Trail;
 use pages::WriteEntry;
-use script::{Action, Register, Step};
+use script::{Action, MOST_STEPS, Register, Step};
 use serial::ReadEntry;
 
 mod effects;
@@ -15,8 +15,8 @@ mod effects;
 pub struct Shadow {
     step: usize,
     registers: [u32; 4],
-    reads: Trail<ReadEntry>,
-    own: Trail<WriteEntry>,
+    reads: Trail<ReadEntry, MOST_STEPS>,
+    own: Trail<WriteEntry, MOST_STEPS>,
 }
 
 fn index_of(register: Register) -> usize

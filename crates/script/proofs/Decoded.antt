@@ -13,20 +13,33 @@ use Rattle.script.specs.declared.Action.TheVariants.{Set, Skip}
 use Rattle.script.specs.declared.Step.{Step}
 use Rattle.script.specs.declared.ScriptFault.{ScriptFault}
 use Rattle.script.specs.declared.ScriptFault.TheVariants.{Unfit, Undefined}
-use Rattle.script.specs.Script.{register, fit, steps_told, code_at, operand_at, step_with, combining, defined, step_at, then_step, steps_to, decoded}
+use Rattle.script.specs.Script.{register, fit, size_told, steps_told, code_at, operand_at, step_with, combining, defined, step_at, then_step, steps_to, decoded}
 use Rattle.script.specs.Laws.{leaves_out, Decodes}
 
--- fit bytes, fact by fact
-pub record Fit (bs : List ℕ) : Type 0 where
-  pub some : 1 ≤ steps_told bs
-  pub few : steps_told bs ≤ 16
-  pub long : length bs ≡ 1 + 5 * steps_told bs
+-- fit bytes of n steps, fact by fact
+pub record Fit (bs : List ℕ) (n : ℕ) : Type 0 where
+  pub fits : fit bs ≡ true
+  pub size : n ≡ steps_told bs
+  pub few : n ≤ 16
+  pub long : length bs ≡ 1 + 5 * n
 
-pub fit_facts : (bs : List ℕ) → fit bs ≡ true → Fit bs
+pub fit_facts : (bs : List ℕ) → fit bs ≡ true → Fit bs (steps_told bs)
 fit_facts bs h =
-    let a = and_parts _ _ h in
-    let b = and_parts _ _ a.1 in
-    record { some = leb-true _ _ a.0; few = leb-true _ _ b.0; long = eqb-true _ _ b.1 }
+    let k = steps_told bs in
+    let b = and_parts (leb k 16) (eqb (length bs) (1 + 5 * k)) (and_parts (leb 1 k) (leb k 16 && eqb (length bs) (1 + 5 * k)) h).1 in
+    record { fits = h; size = refl; few = leb-true k 16 b.0; long = eqb-true (length bs) (1 + 5 * k) b.1 }
+
+pub size_facts : (bs : List ℕ) (n : ℕ) → size_told bs ≡ Some n → Fit bs n
+size_facts bs n =
+    cond_both (fit bs) (Some (steps_told bs)) None (λ o. o ≡ Some n → Fit bs n)
+    (λ h e. let size : steps_told bs ≡ n = cc in subst (Fit bs) size (fit_facts bs h))
+    (λ h e. let z : ◌≡◌ {A = ℕ} 0 1 = cc in absurd (omega arith))
+
+pub decoded-unfit : (bs : List ℕ) → size_told bs ≡ None → decoded bs ≡ Err (Unfit (length bs))
+decoded-unfit bs =
+    cond_both (fit bs) (Some (steps_told bs)) None (λ o. o ≡ None → decoded bs ≡ Err (Unfit (length bs)))
+    (λ h e. let z : ◌≡◌ {A = ℕ} 0 1 = cc in absurd (omega arith))
+    (λ h e. cond-false (fit bs) (steps_to bs (steps_told bs)) (Err (Unfit (length bs))) h)
 
 -- a code byte, as the slice of them has it
 pub code_there : (bs : List ℕ) (n i : ℕ) → i < n → get_or (take (1 + n - 1) (drop 1 bs)) i 0 ≡ code_at bs i
@@ -34,7 +47,7 @@ code_there bs n i l = get_or-take (1 + n - 1) (drop 1 bs) i 0 (omega arith) ∙ 
 
 module _ (bs : List ℕ) where
   -- one turn of the loop over the code bytes
-  pub steps_more : (i : ℕ) (ss : List Step) (s : Step) → i < 16 → length ss ≡ i → steps_to bs i ≡ Ok ss → step_at bs i ≡ Some s → steps_to bs (i + 1) ≡ Ok (pushed ss s)
+  pub steps_more : (i : ℕ) (ss : List Step) (s : Step) → i < 16 → length ss ≡ i → steps_to bs i ≡ Ok ss → step_at bs i ≡ Some s → steps_to bs (i + 1) ≡ Ok (pushed 16 ss s)
   steps_more i ss s l n so here =
       ap (steps_to bs) (add-one i) ∙ ap (then_step i (step_at bs i)) so ∙ ap (λ o. then_step i o (Ok ss)) here
       ∙ ap Ok (sym (cond-true (ltb (length ss) 16) (ss ++ s ∷ []) ss (lt-ltb (length ss) 16 (omega arith))))
@@ -53,7 +66,7 @@ module _ (bs : List ℕ) where
   pub decoded-fit : fit bs ≡ true → decoded bs ≡ steps_to bs (steps_told bs)
   decoded-fit h = cond-true (fit bs) (steps_to bs (steps_told bs)) (Err (Unfit (length bs))) h
 
-pub length-pushed : (ss : List Step) (s : Step) (i : ℕ) → i < 16 → length ss ≡ i → length (pushed ss s) ≡ i + 1
+pub length-pushed : (ss : List Step) (s : Step) (i : ℕ) → i < 16 → length ss ≡ i → length (pushed 16 ss s) ≡ i + 1
 length-pushed ss s i l n =
     ap length (cond-true (ltb (length ss) 16) (ss ++ s ∷ []) ss (lt-ltb (length ss) 16 (omega arith))) ∙ length_push ss s ∙ ap (λ k. k + 1) n
 

@@ -38,6 +38,10 @@ steps_told bs = slice_index bs 0
 abbrev pub fit : List ℕ → Bool
 fit bs = nat_le 1 (steps_told bs) && (nat_le (steps_told bs) 16 && length bs == 1 + 5 * steps_told bs)
 
+-- how many steps fit bytes have
+abbrev pub size_told : List ℕ → Option ℕ
+size_told bs = cond (fit bs) (Some (steps_told bs)) None
+
 abbrev pub code_at : List ℕ → ℕ → ℕ
 code_at bs i = slice_index bs (1 + i)
 

@@ -2,13 +2,13 @@
 ghost use Rattle.std.specs.Prelude.{◌≡◌, ℕ, ◌+◌, ◌*◌, ◌<◌, ◌≤◌, length, Ok, Err, MatchResult};
 ghost use Rattle.std.specs.List.{slice_get};
 ghost use Rattle.basics.specs.Bytes.{big_endian};
-ghost use Rattle.script.specs.Script.{register, fit, defined, steps_told, code_at, step_at, decoded};
+ghost use Rattle.script.specs.Script.{register, size_told, defined, steps_told, code_at, step_at, decoded};
 ghost use Rattle.script.specs.Laws.{Decodes};
 ghost use Rattle.script.specs.View.{steps_of};
 
-use crate::{Action, Register, Script, ScriptFault, Step};
+use crate::{Action, MOST_STEPS, Register, Script, ScriptFault, Step};
 use arithmetic::Operation;
-use basics::{ROOM, Trail, word_at};
+use basics::{Trail, word_at};
 
 // What fills the places past a script's end.
 const UNUSED: Step = Step {
@@ -16,6 +16,7 @@ const UNUSED: Step = Step {
     operand: 0,
 };
 
+// Two bits always name a register. That is no `From<u8>`, which would promise it of every byte.
 fn register_from(n: u8) -> Register
     ensures { result ≡ register n }
 {
@@ -40,7 +41,7 @@ fn step_from(n: usize, i: usize, action: u8, a: u8, b: u8, operand: u32) -> Opti
         2 if b == 0 => Action::Write(first),
         3 => Action::WriteIndexed(first, second),
         4 if b == 0 => Action::Set(first),
-        5 => Action::Combine(Operation::from_number(operand)?, first, second),
+        5 => Action::Combine(Operation::try_from(operand).ok()?, first, second),
         6 if 1 <= operand && operand <= 15 && i + 1 + operand as usize <= n => Action::Skip(
             first, second,
         ),
@@ -49,15 +50,16 @@ fn step_from(n: usize, i: usize, action: u8, a: u8, b: u8, operand: u32) -> Opti
     Some(Step { action, operand })
 }
 
-fn is_fit(bytes: &[u8]) -> bool
-    ensures { result ≡ fit bytes.now }
+// How many steps fit bytes have.
+fn fit_size(bytes: &[u8]) -> Option<usize>
+    ensures { result ≡ size_told bytes.now }
 {
-    let len = bytes.len();
-    if len == 0 {
-        return false;
+    let n = *bytes.first()? as usize;
+    if 1 <= n && n <= MOST_STEPS && bytes.len() == 1 + 5 * n {
+        Some(n)
+    } else {
+        None
     }
-    let n = bytes[0] as usize;
-    1 <= n && n <= ROOM && len == 1 + 5 * n
 }
 
 // Step `i` of fit bytes, where it is defined.
@@ -73,23 +75,17 @@ fn decode_step(bytes: &[u8], n: usize, i: usize, code: u8) -> Option<Step>
     step_from(n, i, code / 16, code / 4 % 4, code % 4, operand)
 }
 
-// Decodes a script, or says why there is none.
+// Decodes a script, or says why there is none. That is no `TryFrom`, whose one promise has no room for the second clause.
+#[tactic(auto, using(crate::proofs::Decoded::decodes))]
 pub fn decode(bytes: &[u8]) -> Result<Script, ScriptFault>
     ensures rule { MatchResult result (λ s. decoded bytes.now ≡ Ok (steps_of s)) (λ f. decoded bytes.now ≡ Err f) }
     ensures told { Decodes bytes.now (decoded bytes.now) }
 {
-    if !is_fit(bytes) {
-        return Err(ScriptFault::Unfit(bytes.len()));
-    }
-    let n = bytes[0] as usize;
+    let n = fit_size(bytes).ok_or(ScriptFault::Unfit(bytes.len()))?;
     let mut steps = Trail::new(UNUSED);
     for (i, code) in bytes[1..1 + n].iter().enumerate() {
-        match decode_step(bytes, n, i, *code) {
-            Some(step) => {
-                let _ = steps.push(step);
-            }
-            None => return Err(ScriptFault::Undefined(i)),
-        }
+        let step = decode_step(bytes, n, i, *code).ok_or(ScriptFault::Undefined(i))?;
+        steps.push(step).unwrap();
     }
     Ok(Script { steps })
 }

@@ -45,10 +45,12 @@ pub struct Step {
     pub operand: u32,
 }
 
-// A decoded script, of at most sixteen steps.
+// No script has more steps than these.
+pub const MOST_STEPS: usize = 16;
+
 #[derive(Clone, Copy, Debug)]
 pub struct Script {
-    steps: Trail<Step>,
+    steps: Trail<Step, MOST_STEPS>,
 }
 
 // Why bytes are no script.

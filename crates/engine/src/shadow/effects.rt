@@ -18,9 +18,7 @@ impl Shadow {
         let entry = WriteEntry { page, word };
         match place(self.own.as_slice(), page) {
             Some(at) => self.own.set(at, entry),
-            None => {
-                let _ = self.own.push(entry);
-            }
+            None => self.own.push(entry).unwrap(),
         }
     }
 
@@ -29,10 +27,12 @@ impl Shadow {
         requires { length (stand_of self.old).reads < 16 }
         ensures { stand_of self.new ≡ recorded (stand_of self.old) page }
     {
-        let _ = self.reads.push(ReadEntry {
-            step: self.step,
-            page,
-        });
+        self.reads
+            .push(ReadEntry {
+                step: self.step,
+                page,
+            })
+            .unwrap();
     }
 
     // One step on, with a word in a register.
