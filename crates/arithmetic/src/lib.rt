@@ -86,7 +86,7 @@ impl Arithmetic for Flags {
     }
 }
 
-// Either delivery, for a host that chooses at run time.
+// Either delivery, for a host that chooses at run time: by value, since a `dyn` would need a heap or a borrow.
 #[derive(Clone, Copy, Debug, PartialEq, Eq)]
 pub enum Delivered {
     Counting,

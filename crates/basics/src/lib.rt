@@ -17,7 +17,8 @@ pub fn word_at(bytes: &[u8], at: usize) -> Option<u32>
     Some(u32::from_be_bytes(*four))
 }
 
-// Why a call is declined: a number, and values that tell more. `cause` and `returned` are their definitions.
+// Why a call is declined: the enum that implements this, and for hosts a number and values that tell more. `cause` and
+// `returned` are their definitions.
 pub trait Refusal {
     ghost cause: { Self → ℕ };
 

@@ -7,8 +7,8 @@ ghost use Rattle.basics.specs.Trail.{items_of, pushed, push_told};
 #[derive(Clone, Copy, PartialEq, Eq, Debug)]
 pub struct Full;
 
-// At most `N` items. What lies past them is never spoken of. The length has no invariant beside it, which would forbid the
-// derives: no call looks past `N`.
+// At most `N` items, with their number beside them: a controller has no heap, and a copy of a record has no other form. What
+// lies past them is never spoken of. An invariant or a model would forbid the derived copy, so no call looks past `N`.
 #[derive(Clone, Copy, Debug)]
 pub struct Trail<T, const N: usize> {
     items: [T; N],

@@ -3,38 +3,32 @@ use Rattle.std.proofs.Common.{◌≡◌, ℕ, zero, suc, ◌+◌, ◌<◌, ◌�
 use Rattle.std.proofs.lemmas.List.{at_drop_more, at_drop_all, get_or-set_same, get_or-set_other, get_or_past, length-set}
 use Rattle.std.proofs.lemmas.Bool.{cases_lt, cond_both, and_parts, not-true, eqb-false}
 use Rattle.serial.specs.Machine.{Stand, start, has_written}
-use Rattle.serial.specs.Rules.{Engine, slots, row, shadow, is_open, lead_writes, with_shadow, clean, furthest_of, has_room, account, read_conflict, account_read, account_reads, account_write, account_writes, before_step}
+use Rattle.serial.specs.Rules.{Engine, slots, row, shadow, is_open, lead_writes, with_shadow, clean, furthest_of, has_room, account, read_conflict, account_read, account_reads, before_step}
 
-slot_at : (u : ℕ) → u < 8 → get_or slots u 0 ≡ u
-slot_at zero low = refl
-slot_at (suc zero) low = refl
-slot_at (suc (suc zero)) low = refl
-slot_at (suc (suc (suc zero))) low = refl
-slot_at (suc (suc (suc (suc zero)))) low = refl
-slot_at (suc (suc (suc (suc (suc zero))))) low = refl
-slot_at (suc (suc (suc (suc (suc (suc zero)))))) low = refl
-slot_at (suc (suc (suc (suc (suc (suc (suc zero))))))) low = refl
-slot_at (suc (suc (suc (suc (suc (suc (suc (suc u)))))))) low = absurd (omega arith)
+pub slot_at : (items : List ℕ) (i d : ℕ) → items ≡ slots → i < 8 → get_or items i d ≡ i
+slot_at items i d h low = ap (λ xs. get_or xs i d) h ∙ at i low
+  where
+    at : (u : ℕ) → u < 8 → get_or slots u d ≡ u
+    at zero l = refl
+    at (suc zero) l = refl
+    at (suc (suc zero)) l = refl
+    at (suc (suc (suc zero))) l = refl
+    at (suc (suc (suc (suc zero)))) l = refl
+    at (suc (suc (suc (suc (suc zero))))) l = refl
+    at (suc (suc (suc (suc (suc (suc zero)))))) l = refl
+    at (suc (suc (suc (suc (suc (suc (suc zero))))))) l = refl
+    at (suc (suc (suc (suc (suc (suc (suc (suc u)))))))) l = absurd (omega arith)
 
-module _ (t p : ℕ) (e m : Engine) (u : ℕ) where
-  pub reads_more : (whole : Engine) → u < 8 → m ≡ account_read e t p u → account_reads e t p (drop u slots) ≡ whole → account_reads m t p (drop (u + 1) slots) ≡ whole
-  reads_more whole low h inv =
-      ap (λ x. account_reads x t p (drop (u + 1) slots)) h
-      ∙ sym (at_drop_more (account_reads e t p) slots u 0 low ∙ ap (λ n. account_reads (account_read e t p n) t p (drop (u + 1) slots)) (slot_at u low))
+-- a loop that changes an engine at one slot after the other
+module _ (F : Engine → List ℕ → Engine) (f : Engine → ℕ → Engine) (turn : (e : Engine) (u : ℕ) (us : List ℕ) → F e (u ∷ us) ≡ F (f e u) us) (e : Engine) (i : ℕ) (whole : Engine) (inv : F e (drop i slots) ≡ whole) where
+  pub slots_more : (items : List ℕ) (m : Engine) (d : ℕ) → items ≡ slots → i < 8 → m ≡ f e (get_or items i d) → F m (drop (i + 1) slots) ≡ whole
+  slots_more items m d h low k =
+      ap (λ x. F x (drop (i + 1) slots)) (k ∙ ap (λ xs. f e (get_or xs i d)) h)
+      ∙ sym (at_drop_more (F e) slots i d low ∙ turn e (get_or slots i d) (drop (i + 1) slots))
       ∙ inv
 
-  pub writes_more : (whole : Engine) → u < 8 → m ≡ account_write e t p u → account_writes e t p (drop u slots) ≡ whole → account_writes m t p (drop (u + 1) slots) ≡ whole
-  writes_more whole low h inv =
-      ap (λ x. account_writes x t p (drop (u + 1) slots)) h
-      ∙ sym (at_drop_more (account_writes e t p) slots u 0 low ∙ ap (λ n. account_writes (account_write e t p n) t p (drop (u + 1) slots)) (slot_at u low))
-      ∙ inv
-
-module _ (t p : ℕ) (e : Engine) (u : ℕ) (whole : Engine) (all : 8 ≤ u) where
-  pub reads_all : account_reads e t p (drop u slots) ≡ whole → e ≡ whole
-  reads_all inv = sym (at_drop_all (account_reads e t p) slots u all) ∙ inv
-
-  pub writes_all : account_writes e t p (drop u slots) ≡ whole → e ≡ whole
-  writes_all inv = sym (at_drop_all (account_writes e t p) slots u all) ∙ inv
+  pub slots_all : 8 ≤ i → F e [] ≡ whole
+  slots_all all = sym (at_drop_all (F e) slots i all) ∙ inv
 
 -- what accounting in row t leaves of t's leading shadow: all
 module _ (t : ℕ) where

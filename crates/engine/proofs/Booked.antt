@@ -1,7 +1,7 @@
 -- One turn of the loop that carries out a list of calls. Assumes nothing.
 use Rattle.std.proofs.Common.{◌≡◌, ℕ, ◌+◌, ◌<◌, List, [], ◌∷◌, ◌++◌, length, get_or, sym, ap, ◌∙◌}
 use Rattle.std.proofs.lemmas.List.{map_more}
-use Rattle.serial.specs.declared.fault.Answer.{Answer}
+use Rattle.serial.specs.Faults.{Answer}
 use Rattle.serial.specs.Machine.{Meaning}
 use Rattle.serial.specs.Rules.{State, does, after, answers, list_put, lists_put}
 use Rattle.serial.proofs.Histories.{after_push, answers_push, lists_push}

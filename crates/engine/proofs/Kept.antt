@@ -1,6 +1,6 @@
 -- The engine's invariant, from its ghost fields and back to them. Assumes nothing.
 use Rattle.std.proofs.Common.{◌≡◌, ℕ, ◌<◌, ◌⊎◌, List, Some, None, sym, ap, ◌∙◌, subst, ⊎_elim, arith}
-use Rattle.serial.specs.declared.fault.Answer.{Answer}
+use Rattle.serial.specs.Faults.{Answer}
 use Rattle.serial.specs.Machine.{Meaning, Stand}
 use Rattle.serial.specs.Rules.{Engine, Call, does, shadow}
 use Rattle.serial.specs.Sound.{Eight, AllowanceFits, ClosedBare, OpenLed, WithinAllowance, ForOpen, ScriptsFit, ShadowsFit, SoundEngine}

@@ -10,3 +10,4 @@ pub mod Kept
 pub mod Offs
 pub mod Called
 pub mod Booked
+pub mod Asked

@@ -1,5 +1,6 @@
 -- What stands in a row, and turns of the loops over it. Assumes nothing.
 use Rattle.std.proofs.Common.{◌≡◌, ℕ, zero, suc, ◌+◌, ◌<◌, ◌≤◌, Bool, true, not, List, [], ◌∷◌, ◌++◌, map, length, get_or, take, drop, set, is_some, Some, None, Option, Result, unwrap_or, sym, refl, ap, ◌∙◌, subst, arith}
+use Rattle.std.specs.List.{filter}
 use Rattle.std.specs.Option.{option_map}
 use Rattle.std.proofs.lemmas.List.{at_drop_more, at_drop_all, length-map, map-set, get_or_default, take_all, drop_all, append-nil, set-get_or}
 use Rattle.std.proofs.lemmas.Bool.{true≢false}
@@ -67,24 +68,11 @@ furthest_any t cs = furthest_same (unread []) any_shadow (λ s. none_read s.read
 abbrev pub view : List (Option Shadow) → Row
 view xs = map (option_map stand_of) xs
 
-module _ (xs : List (Option Shadow)) (i : ℕ) where
-  count_first : (c : Option Stand) (cs : Row) → count (c ∷ cs) ≡ count (c ∷ []) + count cs
-  count_first None cs = omega arith
-  count_first (Some s) cs = omega arith
-
-  count_one : (c : Option Stand) → count (c ∷ []) ≤ 1
-  count_one None = omega arith
-  count_one (Some s) = omega arith
-
-  pub count_more : (n m : ℕ) → i < length xs → m ≡ n + count (option_map stand_of (get_or xs i None) ∷ []) → (n + count (drop i (view xs)) ≡ count (view xs)) × (n ≤ i) → (m + count (drop (i + 1) (view xs)) ≡ count (view xs)) × (m ≤ i + 1)
-  count_more n m low e inv =
-      let c = option_map stand_of (get_or xs i None) in
-      let f = more_at_map (option_map stand_of) count None xs i low in
-      let g = count_first c (drop (i + 1) (view xs)) in
-      let h = count_one c in
-      let j = inv.0 in
-      let k = inv.1 in
-      (omega arith, omega arith)
+-- how many shadows there are, as a filter leaves them
+pub count_filtered : (xs : List (Option Shadow)) → length (filter (λ o. is_some o) xs) ≡ count (view xs)
+count_filtered [] = refl
+count_filtered (None ∷ xs) = count_filtered xs
+count_filtered (Some s ∷ xs) = ap suc (count_filtered xs)
 
 -- a step of the shadow at a place of the row
 module _ (xs : List (Option Shadow)) (u : ℕ) (s : Shadow) (at : get_or xs u None ≡ Some s) where

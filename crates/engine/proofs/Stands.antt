@@ -9,14 +9,9 @@ use Rattle.serial.specs.declared.ReadEntry.{ReadEntry}
 use Rattle.serial.specs.Machine.{Meaning, Steps, Stand, start, written, write, Effect, reading, writing, setting, leaving, effect, with_register, recorded, with_write, moved, off_pages, take_read, take_effect}
 use Rattle.serial.specs.Laws.{Next, Leads, here, more}
 use Rattle.serial.proofs.Runs.{stepped}
+use Rattle.serial.proofs.Sound.{length-write}
 use Rattle.engine.specs.View.{Room}
 use Rattle.engine.specs.Alone.{Inside}
-
-length-write : (es : List WriteEntry) (p w : ℕ) → length (write es p w) ≤ length es + 1
-length-write [] p w = omega arith
-length-write (e ∷ es) p w =
-    let rest = length-write es p w in
-    cond_both (eqb e.page p) (entry p w ∷ es) (e ∷ write es p w) (λ xs. length xs ≤ suc (length es) + 1) (λ _. omega arith) (λ _. omega arith)
 
 inside-write : (n : ℕ) (es : List WriteEntry) (p w : ℕ) → p < n → Inside n es → Inside n (write es p w)
 inside-write n [] p w low in-es = (low, tt)

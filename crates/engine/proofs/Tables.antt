@@ -1,39 +1,56 @@
 -- The rows and scripts of a table, and turns of the loops over them. Assumes nothing.
-use Rattle.std.proofs.Common.{◌≡◌, ℕ, zero, suc, ◌+◌, ◌<◌, ◌≤◌, true, false, List, [], ◌∷◌, ◌++◌, map, length, get_or, take, drop, set, is_some, Some, None, Option, sym, refl, ap, ◌∙◌, add-one, arith}
-use Rattle.std.specs.Option.{option_map}
-use Rattle.std.proofs.lemmas.List.{length-map, map-set, take_all, drop_all, append-nil}
-use Rattle.std.proofs.lemmas.Bool.{true≢false}
+use Rattle.std.proofs.Common.{◌≡◌, ℕ, zero, suc, ◌+◌, ◌<◌, ◌≤◌, Bool, List, [], ◌∷◌, ◌++◌, map, length, get_or, take, drop, set, is_some, Some, None, Option, sym, refl, ap, ◌∙◌, add-one, arith}
+use Rattle.std.specs.List.{find, range_with_len}
+use Rattle.std.proofs.lemmas.List.{length-map, map-set, set-get_or, take_all, drop_all, append-nil}
+use Rattle.std.proofs.lemmas.Bool.{cond-true, cond-false}
 use Rattle.pages.specs.declared.WriteEntry.{WriteEntry}
 use Rattle.script.specs.declared.Script.{Script}
 use Rattle.script.specs.View.{steps_of}
 use Rattle.serial.specs.Machine.{Steps, Stand, start}
-use Rattle.serial.specs.Rules.{Engine, no_shadows, with_shadow, first_open, begun, closed, renewed, renew}
+use Rattle.serial.specs.Rules.{Engine, slots, no_shadows, with_shadow, first_open, begun, closed, renewed, renew}
 use Rattle.serial.specs.Rules as rules
 use Rattle.engine.specs.declared.row.Row.{Row}
+use Rattle.engine.specs.declared.table.Held.{Held}
 use Rattle.engine.specs.declared.table.Table.{Table}
-use Rattle.engine.specs.Table.{row_of, engine_of, without_column}
-use Rattle.engine.proofs.Rows.{at_map, more_at_map, all_at_map}
+use Rattle.engine.specs.Table.{row_of, script_held, row_held, engine_of, without_column}
+use Rattle.engine.proofs.Rows.{at_map}
 
--- what stands past the last row
-abbrev pub no_row : Row
-no_row = record { entries = [] }
+-- what stands past the last slot
+abbrev pub no_held : Held
+no_held = record { script = None; row = record { entries = [] } }
 
-same_engine : {a b : ℕ} {s q : List (Option Steps)} {x y : List rules.Row} → a ≡ b → s ≡ q → x ≡ y → ◌≡◌ {A = Engine} (record { allowance = a; scripts = s; shadows = x }) (record { allowance = b; scripts = q; shadows = y })
+-- another row, or another script, in a slot
+abbrev pub with_row : Held → Row → Held
+with_row h x = record { script = h.script; row = x }
+
+abbrev pub with_script : Held → Option Script → Held
+with_script h x = record { script = x; row = h.row }
+
+pub same_engine : {a b : ℕ} {s q : List (Option Steps)} {x y : List rules.Row} → a ≡ b → s ≡ q → x ≡ y → ◌≡◌ {A = Engine} (record { allowance = a; scripts = s; shadows = x }) (record { allowance = b; scripts = q; shadows = y })
 same_engine p q r = λ i. record { allowance = p i; scripts = q i; shadows = r i }
 
--- another row in the place of one
-pub row-set : (b : Table) (t : ℕ) (x : Row) (y : List (Option Stand)) → row_of x ≡ y → engine_of (record { allowance = b.allowance; scripts = b.scripts; rows = set b.rows t x }) ≡ record { allowance = b.allowance; scripts = map (option_map steps_of) b.scripts; shadows = set (map row_of b.rows) t y }
-row-set b t x y e = same_engine refl refl (map-set row_of b.rows t x ∙ ap (set (map row_of b.rows) t) e)
+-- a change of a slot that a view does not see
+pub unseen : {X : Type 0} (f : Held → X) (xs : List Held) (t : ℕ) (h : Held) → f h ≡ f (get_or xs t no_held) → map f (set xs t h) ≡ map f xs
+unseen f xs t h same =
+    map-set f xs t h ∙ ap (set (map f xs) t) (same ∙ at_map f no_held xs t) ∙ set-get_or (map f xs) t (f no_held)
 
-pub opened : (b : Table) (t : ℕ) (script : Script) (s : Stand) → s ≡ start → with_shadow (engine_of (record { allowance = b.allowance; scripts = set b.scripts t (Some script); rows = b.rows })) t t (Some s) ≡ begun (engine_of b) t (steps_of script)
+pub row-set : (b : Table) (t : ℕ) (x : Row) (y : List (Option Stand)) → row_of x ≡ y → engine_of (record { allowance = b.allowance; slots = set b.slots t (with_row (get_or b.slots t no_held) x) }) ≡ record { allowance = b.allowance; scripts = map script_held b.slots; shadows = set (map row_held b.slots) t y }
+row-set b t x y e =
+    let h = with_row (get_or b.slots t no_held) x in
+    same_engine refl (unseen script_held b.slots t h refl) (map-set row_held b.slots t h ∙ ap (set (map row_held b.slots) t) e)
+
+pub opened : (b : Table) (t : ℕ) (script : Script) (s : Stand) → s ≡ start → with_shadow (engine_of (record { allowance = b.allowance; slots = set b.slots t (with_script (get_or b.slots t no_held) (Some script)) })) t t (Some s) ≡ begun (engine_of b) t (steps_of script)
 opened b t script s e =
-    ap (λ q. with_shadow (record { allowance = b.allowance; scripts = q; shadows = map row_of b.rows }) t t (Some s)) (map-set (option_map steps_of) b.scripts t (Some script))
-    ∙ ap (λ x. with_shadow (record { allowance = b.allowance; scripts = set (map (option_map steps_of) b.scripts) t (Some (steps_of script)); shadows = map row_of b.rows }) t t (Some x)) e
+    let h = with_script (get_or b.slots t no_held) (Some script) in
+    ap (λ q. with_shadow (record { allowance = b.allowance; scripts = q; shadows = map row_held (set b.slots t h) }) t t (Some s)) (map-set script_held b.slots t h)
+    ∙ ap (λ q. with_shadow (record { allowance = b.allowance; scripts = set (map script_held b.slots) t (Some (steps_of script)); shadows = q }) t t (Some s)) (unseen row_held b.slots t h refl)
+    ∙ ap (λ x. with_shadow (record { allowance = b.allowance; scripts = set (map script_held b.slots) t (Some (steps_of script)); shadows = map row_held b.slots }) t t (Some x)) e
 
-pub closed_by : (b m : Table) (t : ℕ) (r : Row) → engine_of m ≡ without_column (engine_of (record { allowance = b.allowance; scripts = set b.scripts t None; rows = b.rows })) t → row_of r ≡ no_shadows → engine_of (record { allowance = m.allowance; scripts = m.scripts; rows = set m.rows t r }) ≡ closed (engine_of b) t (map row_of b.rows)
-closed_by b m t r h e =
-    same_engine (ap (λ (q : Engine). q.allowance) h) (ap (λ (q : Engine). q.scripts) h ∙ map-set (option_map steps_of) b.scripts t None)
-    (map-set row_of m.rows t r ∙ ap (λ (q : Engine). set q.shadows t (row_of r)) h ∙ ap (set (map (rules.cleared t) (map row_of b.rows)) t) e)
+pub closed_by : (b m : Table) (t : ℕ) (h : Held) → engine_of m ≡ without_column (engine_of b) t → script_held h ≡ None → row_held h ≡ no_shadows → engine_of (record { allowance = m.allowance; slots = set m.slots t h }) ≡ closed (engine_of b) t (map row_held b.slots)
+closed_by b m t h k none bare =
+    same_engine (ap (λ (q : Engine). q.allowance) k)
+    (map-set script_held m.slots t h ∙ ap (λ (q : Engine). set q.scripts t (script_held h)) k ∙ ap (set (map script_held b.slots) t) none)
+    (map-set row_held m.slots t h ∙ ap (λ (q : Engine). set q.shadows t (row_held h)) k ∙ ap (set (map (rules.cleared t) (map row_held b.slots)) t) bare)
 
 -- a loop that renews each row
 module _ (own : List WriteEntry) where
@@ -46,56 +63,42 @@ module _ (own : List WriteEntry) where
       ap (λ n. renewed own v x ∷ set ys i (renewed own n (get_or ys i []))) e
       ∙ ap (λ rs. renewed own v x ∷ rs) (renewed-turn (suc v) xs i (omega arith))
 
-  module _ (xs : List Row) (i : ℕ) where
+  module _ (xs : List Held) (i : ℕ) where
     -- the first i rows are renewed
-    abbrev pub Renewed : List Row → Type 0
-    Renewed ys = map row_of ys ≡ renew own 0 (take i (map row_of xs)) ++ drop i (map row_of xs)
+    abbrev pub Renewed : List Held → Type 0
+    Renewed ys = map row_held ys ≡ renew own 0 (take i (map row_held xs)) ++ drop i (map row_held xs)
 
-    pub renewed_all : (ys : List Row) → length xs ≤ i → Renewed ys → map row_of ys ≡ renew own 0 (map row_of xs)
+    pub renewed_all : (ys : List Held) → length xs ≤ i → Renewed ys → map row_held ys ≡ renew own 0 (map row_held xs)
     renewed_all ys all inv =
-        let l : length (map row_of xs) ≤ i = simp length-map all in
-        inv ∙ ap (λ cs. renew own 0 cs ++ drop i (map row_of xs)) (take_all i (map row_of xs) l)
-        ∙ ap (λ cs. renew own 0 (map row_of xs) ++ cs) (drop_all i (map row_of xs) l)
-        ∙ append-nil (renew own 0 (map row_of xs))
+        let l : length (map row_held xs) ≤ i = simp length-map all in
+        inv ∙ ap (λ cs. renew own 0 cs ++ drop i (map row_held xs)) (take_all i (map row_held xs) l)
+        ∙ ap (λ cs. renew own 0 (map row_held xs) ++ cs) (drop_all i (map row_held xs) l)
+        ∙ append-nil (renew own 0 (map row_held xs))
 
-  pub renewed_more : (xs ys : List Row) (i : ℕ) (y : Row) → i < length xs → row_of y ≡ renewed own i (row_of (get_or ys i no_row)) → Renewed xs i ys → Renewed xs (i + 1) (set ys i y)
+  pub renewed_more : (xs ys : List Held) (i : ℕ) (y : Held) → i < length xs → row_held y ≡ renewed own i (row_held (get_or ys i no_held)) → Renewed xs i ys → Renewed xs (i + 1) (set ys i y)
   renewed_more xs ys i y low e inv =
-      let l : i < length (map row_of xs) = simp length-map low in
+      let l : i < length (map row_held xs) = simp length-map low in
       let z : 0 + i ≡ i = omega arith in
-      map-set row_of ys i y
-      ∙ ap (set (map row_of ys) i) (e ∙ ap (renewed own i) (at_map row_of no_row ys i))
+      map-set row_held ys i y
+      ∙ ap (set (map row_held ys) i) (e ∙ ap (renewed own i) (at_map row_held no_held ys i))
       ∙ ap (λ rs. set rs i (renewed own i (get_or rs i []))) inv
-      ∙ ap (λ n. set (renew own 0 (take i (map row_of xs)) ++ drop i (map row_of xs)) i (renewed own n (get_or (renew own 0 (take i (map row_of xs)) ++ drop i (map row_of xs)) i []))) (sym z)
-      ∙ renewed-turn 0 (map row_of xs) i l
-      ∙ ap (λ n. renew own 0 (take n (map row_of xs)) ++ drop n (map row_of xs)) (sym (add-one i))
+      ∙ ap (λ n. set (renew own 0 (take i (map row_held xs)) ++ drop i (map row_held xs)) i (renewed own n (get_or (renew own 0 (take i (map row_held xs)) ++ drop i (map row_held xs)) i []))) (sym z)
+      ∙ renewed-turn 0 (map row_held xs) i l
+      ∙ ap (λ n. renew own 0 (take n (map row_held xs)) ++ drop n (map row_held xs)) (sym (add-one i))
 
--- the lowest open slot
-module _ (xs : List (Option Script)) (t : ℕ) where
-  abbrev scripts : List (Option Steps)
-  scripts = map (option_map steps_of) xs
+-- the lowest open slot, found among the slots
+from_here : (n m : ℕ) (xs : List (Option Steps)) (open_at : ℕ → Bool) → length xs ≡ m → ((k : ℕ) → k < m → open_at (n + k) ≡ is_some (get_or xs k None)) → find open_at (range_with_len n m) ≡ first_open n xs
+from_here n zero [] open_at l h = refl
+from_here n zero (x ∷ xs) open_at l h = absurd (omega arith)
+from_here n (suc m) [] open_at l h = absurd (omega arith)
+from_here n (suc m) (None ∷ xs) open_at l h =
+    let z : n + 0 ≡ n = omega arith in
+    cond-false (open_at n) (Some n) (find open_at (range_with_len (n + 1) m)) (ap open_at (sym z) ∙ h 0 (omega arith))
+    ∙ from_here (n + 1) m xs open_at (omega arith) (λ k low. let e : n + 1 + k ≡ n + suc k = omega arith in ap open_at e ∙ h (suc k) (omega arith))
+    ∙ ap (λ k. first_open k xs) (add-one n)
+from_here n (suc m) (Some s ∷ xs) open_at l h =
+    let z : n + 0 ≡ n = omega arith in
+    cond-true (open_at n) (Some n) (find open_at (range_with_len (n + 1) m)) (ap open_at (sym z) ∙ h 0 (omega arith))
 
-  open_head : (c : Option Script) (cs : List (Option Steps)) → is_some c ≡ true → first_open t (option_map steps_of c ∷ cs) ≡ Some t
-  open_head None cs h = absurd (true≢false (sym h))
-  open_head (Some s) cs h = refl
-
-  closed_head : (c : Option Script) (cs : List (Option Steps)) → is_some c ≡ false → first_open t (option_map steps_of c ∷ cs) ≡ first_open (suc t) cs
-  closed_head None cs h = refl
-  closed_head (Some s) cs h = absurd (true≢false h)
-
-  -- slots below t are closed
-  abbrev pub Closed : Type 0
-  Closed = first_open t (drop t (map (option_map steps_of) xs)) ≡ first_open 0 (map (option_map steps_of) xs)
-
-  pub open_here : t < length xs → is_some (get_or xs t None) ≡ true → Closed → Some t ≡ first_open 0 (map (option_map steps_of) xs)
-  open_here low h inv =
-      sym (open_head (get_or xs t None) (drop (t + 1) scripts) h) ∙ sym (more_at_map (option_map steps_of) (first_open t) None xs t low) ∙ inv
-
-  pub open_past : t < length xs → is_some (get_or xs t None) ≡ false → Closed → first_open (t + 1) (drop (t + 1) (map (option_map steps_of) xs)) ≡ first_open 0 (map (option_map steps_of) xs)
-  open_past low h inv =
-      ap (λ n. first_open n (drop (t + 1) scripts)) (add-one t)
-      ∙ sym (closed_head (get_or xs t None) (drop (t + 1) scripts) h)
-      ∙ sym (more_at_map (option_map steps_of) (first_open t) None xs t low)
-      ∙ inv
-
-  pub open_nowhere : length xs ≤ t → Closed → None ≡ first_open 0 (map (option_map steps_of) xs)
-  open_nowhere all inv = sym (all_at_map (option_map steps_of) (first_open t) xs t all) ∙ inv
+pub first_found : (e : Engine) → length e.scripts ≡ 8 → find (rules.is_open e) slots ≡ first_open 0 e.scripts
+first_found e long = from_here 0 8 e.scripts (rules.is_open e) long (λ k l. let z : 0 + k ≡ k = omega arith in ap (rules.is_open e) z)

@@ -13,36 +13,36 @@ use Rattle.serial.specs.Rules.{Engine, shadow, with_shadow, before_step, after_s
 use Rattle.engine.specs.declared.row.Row.{Row}
 use Rattle.engine.specs.declared.table.Table.{Table}
 use Rattle.engine.specs.View.{Room}
-use Rattle.engine.specs.Table.{row_of, engine_of, Lent, page_needed, page_needed_by, checked, lead_takes, shadow_takes, Stepped}
+use Rattle.engine.specs.Table.{row_of, row_held, engine_of, Lent, page_needed, page_needed_by, checked, lead_takes, shadow_takes, Stepped}
 use Rattle.engine.proofs.Rows.{at_map}
-use Rattle.engine.proofs.Tables.{no_row, row-set}
+use Rattle.engine.proofs.Tables.{no_held, with_row, row-set}
 use Rattle.engine.proofs.Accounts.{before_keeps}
 
 -- a row's step is the table's
 module _ (b : Table) (t u : ℕ) where
-  abbrev pub with_row : Row → Table
-  with_row x = record { allowance = b.allowance; scripts = b.scripts; rows = set b.rows t x }
+  abbrev pub with_step : Row → Table
+  with_step x = record { allowance = b.allowance; slots = set b.slots t (with_row (get_or b.slots t no_held) x) }
 
-  same_row : row_of (get_or b.rows t no_row) ≡ get_or (map row_of b.rows) t []
-  same_row = at_map row_of no_row b.rows t
+  same_row : row_of (get_or b.slots t no_held).row ≡ get_or (map row_held b.slots) t []
+  same_row = at_map row_held no_held b.slots t
 
-  pub row-there : is_some (shadow (engine_of b) t u) ≡ true → is_some (get_or (row_of (get_or b.rows t no_row)) u None) ≡ true
+  pub row-there : is_some (shadow (engine_of b) t u) ≡ true → is_some (get_or (row_of (get_or b.slots t no_held).row) u None) ≡ true
   row-there h = ap (λ r. is_some (get_or r u None)) same_row ∙ h
 
-  pub row_room : Room (unwrap_or (shadow (engine_of b) t u) start) → Room (unwrap_or (get_or (row_of (get_or b.rows t no_row)) u None) start)
+  pub row_room : Room (unwrap_or (shadow (engine_of b) t u) start) → Room (unwrap_or (get_or (row_of (get_or b.slots t no_held).row) u None) start)
   row_room h = subst (λ r. Room (unwrap_or (get_or r u None) start)) (sym same_row) h
 
-  row_stepped : (k : Taken) (r : Result (Unit {0}) StoreFault) (x : Row) → Lent (get_or b.rows t no_row) u k r x → Stepped b (λ e. with_shadow (engine_of b) t u (Some e)) k r (with_row x)
+  row_stepped : (k : Taken) (r : Result (Unit {0}) StoreFault) (x : Row) → Lent (get_or b.slots t no_held).row u k r x → Stepped b (λ e. with_shadow (engine_of b) t u (Some e)) k r (with_step x)
   row_stepped (moved e) r x h = (h.0, row-set b t x _ (h.1 ∙ ap (λ q. set q u (Some e)) same_row))
   row_stepped (off_pages p) r x h = (
     h.0,
-    ap (λ q. record { allowance = b.allowance; scripts = b.scripts; rows = q }) (ap (set b.rows t) h.1 ∙ set-get_or b.rows t no_row),
+    ap (λ q. record { allowance = b.allowance; slots = q }) (ap (λ x. set b.slots t (with_row (get_or b.slots t no_held) x)) h.1 ∙ set-get_or b.slots t no_held),
   )
 
-  pub row_steps : (ar : Meaning) (pages : List ℕ) (st : Step) (r : Result (Unit {0}) StoreFault) (x : Row) → Lent (get_or b.rows t no_row) u (takes ar pages st (unwrap_or (get_or (row_of (get_or b.rows t no_row)) u None) start)) r x → Stepped b (λ e. with_shadow (engine_of b) t u (Some e)) (takes ar pages st (unwrap_or (shadow (engine_of b) t u) start)) r (with_row x)
+  pub row_steps : (ar : Meaning) (pages : List ℕ) (st : Step) (r : Result (Unit {0}) StoreFault) (x : Row) → Lent (get_or b.slots t no_held).row u (takes ar pages st (unwrap_or (get_or (row_of (get_or b.slots t no_held).row) u None) start)) r x → Stepped b (λ e. with_shadow (engine_of b) t u (Some e)) (takes ar pages st (unwrap_or (shadow (engine_of b) t u) start)) r (with_step x)
   row_steps ar pages st r x h =
       row_stepped (takes ar pages st (unwrap_or (shadow (engine_of b) t u) start)) r x
-      (subst (λ q. Lent (get_or b.rows t no_row) u (takes ar pages st (unwrap_or (get_or q u None) start)) r x) same_row h)
+      (subst (λ q. Lent (get_or b.slots t no_held).row u (takes ar pages st (unwrap_or (get_or q u None) start)) r x) same_row h)
 
 -- the check of a step's page tells how the step ends
 abbrev Tells : Taken → Result (Unit {0}) StoreFault → Type 0

@@ -1,7 +1,7 @@
 -- What carrying out a list of calls promises. Assumes nothing.
 use Rattle.std.specs.Prelude.{◌≡◌, ℕ, min, List, map, length, take, drop}
 use Rattle.pages.specs.Pages.{Chain}
-use Rattle.serial.specs.declared.fault.Answer.{Answer}
+use Rattle.serial.specs.Faults.{Answer}
 use Rattle.serial.specs.Machine.{Meaning}
 use Rattle.serial.specs.Rules.{fresh, Call, set_allowance, begin, turn, commit, abort, after, answers, lists_put}
 use Rattle.serial.specs.Book.{Booked}

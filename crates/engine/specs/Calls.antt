@@ -3,8 +3,9 @@ use Rattle.std.specs.Prelude.{◌≡◌, ℕ, List, Ok, Err, Result}
 use Rattle.pages.specs.Pages.{Chain}
 use Rattle.pages.specs.declared.WriteEntry.{WriteEntry}
 use Rattle.serial.specs.declared.fault.CallFault.{CallFault}
-use Rattle.serial.specs.declared.fault.Answer.{Answer}
-use Rattle.serial.specs.declared.fault.Answer.TheVariants.{Committed, Declined}
+use Rattle.serial.specs.declared.fault.Accepted.{Accepted}
+use Rattle.serial.specs.declared.fault.Accepted.TheVariants.{Committed}
+use Rattle.serial.specs.Faults.{Answer}
 use Rattle.serial.specs.Rules.{State}
 use Rattle.engine.specs.Table.{engine_of}
 use Rattle.engine.specs.declared.engine.Engine.{Engine as Held}
@@ -14,17 +15,12 @@ abbrev pub state_of : Held → List ℕ → State
 state_of e pages = record { engine = engine_of e.table; pages = pages }
 
 -- what a call's result is as an answer
-abbrev pub answers_by : {X : Type 0} → (X → Answer) → Result X CallFault → Answer
-answers_by f (Ok x) = f x
-answers_by f (Err fault) = Declined fault
+abbrev pub answers_by : {X : Type 0} → (X → Accepted) → Result X CallFault → Answer
+answers_by f (Ok x) = Ok (f x)
+answers_by f (Err fault) = Err fault
 
-abbrev pub committing : ℕ × ℕ → Answer
+abbrev pub committing : ℕ × ℕ → Accepted
 committing x = Committed x.0 x.1
-
--- a declined call leaves the engine as it was
-abbrev pub UnlessAccepted : {X : Type 0} → Result X CallFault → Type 0 → Type 0
-UnlessAccepted (Ok x) P = Unit {0}
-UnlessAccepted (Err fault) P = P
 
 -- a commit puts the leading shadow's list, in its order; a declined one leaves the store as it was
 abbrev pub PutsList : {S : Type 0} → (S → ℕ → ℕ → S → Type 0) → List WriteEntry → S → Result (ℕ × ℕ) CallFault → S → Type 0

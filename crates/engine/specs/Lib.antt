@@ -4,3 +4,4 @@ pub mod Table
 pub mod Calls
 pub mod Booking
 pub mod Questions
+pub mod Named

@@ -8,20 +8,27 @@ use Rattle.script.specs.declared.Step.{Step}
 use Rattle.script.specs.View.{steps_of}
 use Rattle.serial.specs.declared.fault.StepFault.{StepFault}
 use Rattle.serial.specs.Faults.{step_fault}
-use Rattle.serial.specs.Machine.{Stand, Taken, moved, off_pages, store_read, write_of, has_read_any}
+use Rattle.serial.specs.Machine.{Steps, Stand, Taken, moved, off_pages, store_read, write_of, has_read_any}
 use Rattle.serial.specs.Rules.{Engine, with_shadow, before_step, after_step, cleared}
 use Rattle.engine.specs.View.{stand_of}
 use Rattle.engine.specs.declared.row.Row.{Row}
+use Rattle.engine.specs.declared.table.Held.{Held}
 use Rattle.engine.specs.declared.table.Table.{Table}
 
 -- the shadows of one slot
 abbrev pub row_of : Row → List (Option Stand)
 row_of r = map (option_map stand_of) r.entries
 
+-- the script of an open slot, and a slot's shadows
+abbrev pub script_held : Held → Option Steps
+script_held h = option_map steps_of h.script
+
+abbrev pub row_held : Held → List (Option Stand)
+row_held h = row_of h.row
+
 -- the table, with the script of each open slot
 abbrev pub engine_of : Table → Engine
-engine_of t =
-    record { allowance = t.allowance; scripts = map (option_map steps_of) t.scripts; shadows = map row_of t.rows }
+engine_of t = record { allowance = t.allowance; scripts = map script_held t.slots; shadows = map row_held t.slots }
 
 abbrev pub with_allowance : Engine → ℕ → Engine
 with_allowance e k = record { allowance = k; scripts = e.scripts; shadows = e.shadows }
@@ -74,8 +81,3 @@ abbrev pub TookTurn : Table → (Stand → Engine) → ℕ → ℕ → Option Ta
 TookTurn s to slot step None r t = (r ≡ Ok tt) × (t ≡ s)
 TookTurn s to slot step (Some (moved e)) r t = (r ≡ Ok tt) × (engine_of t ≡ to e)
 TookTurn s to slot step (Some (off_pages p)) r t = (r ≡ Err (step_fault slot step (fault_at p))) × (t ≡ s)
-
--- a store's fault beside the slot and the step
-abbrev pub told : ℕ → ℕ → Result (Unit {0}) StoreFault → Result (Unit {0}) (ℕ × ℕ × StoreFault)
-told slot step (Ok x) = Ok tt
-told slot step (Err f) = Err (slot, step, f)

@@ -10,6 +10,7 @@ ghost use Rattle.engine.specs.View.{stand_of, Room};
 ghost use Rattle.engine.specs.Alone.{Inside, Advanced, Ended, RanAlone};
 ghost use Rattle.engine.specs.declared.alone.AloneFault.TheVariants.{Script as NoScript};
 
+use crate::machine::Machine;
 use crate::shadow::Shadow;
 use arithmetic::Arithmetic;
 use pages::{Reader, Store, StoreFault, WriteEntry};
@@ -36,35 +37,32 @@ impl From<ScriptFault> for AloneFault {
 fn advance<R: Reader, A: Arithmetic>(
     shadow: &mut Shadow,
     step: &Step,
-    reader: &R,
-    arithmetic: &A,
+    machine: &Machine<R, A>,
 ) -> Result<(), AloneFault>
     requires { Room (stand_of shadow.old) }
-    ensures { Advanced shadow.old (takes (A.Arithmetic.meaning arithmetic.now) (R.Reader.pages reader.now) step.now (stand_of shadow.old)) result shadow.new }
+    ensures { Advanced shadow.old (takes (A.Arithmetic.meaning machine.now.arithmetic.now) (R.Reader.pages machine.now.reader.now) step.now (stand_of shadow.old)) result shadow.new }
 {
     let number = shadow.step();
-    match shadow.take_step(step, reader, arithmetic) {
-        Ok(()) => Ok(()),
-        Err(fault) => Err(AloneFault::Step {
+    shadow
+        .take_step(step, machine)
+        .map_err(|fault| AloneFault::Step {
             step: number,
             fault,
-        }),
-    }
+        })
 }
 
 // Runs a script from step 0 to its end. No page changes.
 fn run_to_end<R: Reader, A: Arithmetic>(
     script: &Script,
-    reader: &R,
-    arithmetic: &A,
+    machine: &Machine<R, A>,
 ) -> Result<Shadow, AloneFault>
     requires ends { EndsAtEnd (steps_of script.now) }
     requires few { length (steps_of script.now) ≤ 16 }
-    ensures { Ended (A.Arithmetic.meaning arithmetic.now) (steps_of script.now) (R.Reader.pages reader.now) result }
+    ensures { Ended (A.Arithmetic.meaning machine.now.arithmetic.now) (steps_of script.now) (R.Reader.pages machine.now.reader.now) result }
 {
     let mut shadow = Shadow::start();
     while let Some(step) = script.step(shadow.step()) {
-        advance(&mut shadow, &step, reader, arithmetic)?;
+        advance(&mut shadow, &step, machine)?;
     }
     Ok(shadow)
 }
@@ -99,7 +97,13 @@ pub fn run_alone<S: Store, A: Arithmetic>(
     ensures { RanAlone S.Reader.pages S.Store.wrote (A.Arithmetic.meaning arithmetic.now) store.old (decoded bytes.now) result store.new }
 {
     let script = decode(bytes)?;
-    let shadow = run_to_end(&script, store, arithmetic)?;
+    let shadow = run_to_end(
+        &script,
+        &Machine {
+            reader: &*store,
+            arithmetic,
+        },
+    )?;
     let own = shadow.own();
     put_all(own, store);
     Ok((shadow.register(Register::R0), own.len()))

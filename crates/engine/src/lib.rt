@@ -3,8 +3,11 @@
 
 mod alone;
 mod engine;
+mod machine;
+mod named;
 mod row;
 mod shadow;
+mod slot;
 mod table;
 
 pub use alone::{AloneFault, run_alone};

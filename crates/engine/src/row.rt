@@ -6,7 +6,9 @@ ghost use Rattle.serial.specs.Rules.{no_shadows, ahead, better as better_of, fur
 ghost use Rattle.engine.specs.View.{stand_of, Room};
 ghost use Rattle.engine.specs.Table.{row_of, unread, Lent};
 
+use crate::machine::Machine;
 use crate::shadow::Shadow;
+use crate::slot::Slot;
 use arithmetic::Arithmetic;
 use pages::{Reader, StoreFault, WriteEntry};
 use script::Step;
@@ -16,21 +18,10 @@ pub struct Row {
     entries: [Option<Shadow>; 8],
 }
 
-fn is_ahead(shadow: &Shadow, best: &Option<Shadow>) -> bool
-    ensures { result ≡ ahead (stand_of shadow.now) (option_map stand_of best.now) }
+fn is_ahead(shadow: &Shadow, best: Option<Shadow>) -> bool
+    ensures { result ≡ ahead (stand_of shadow.now) (option_map stand_of best) }
 {
-    match best {
-        Some(known) => known.step() < shadow.step(),
-        None => true,
-    }
-}
-
-// One more where there is a shadow.
-fn tally(n: usize, entry: &Option<Shadow>) -> usize
-    requires { n < 8 }
-    ensures { result ≡ n + counted (option_map stand_of entry.now ∷ []) }
-{
-    if entry.is_some() { n + 1 } else { n }
+    best.is_none_or(|known| known.step() < shadow.step())
 }
 
 // The better of two: the first, unless the other has read no page of the list and is ahead.
@@ -38,7 +29,7 @@ fn better(best: Option<Shadow>, other: Option<Shadow>, list: &[WriteEntry]) -> O
     ensures { option_map stand_of result ≡ better_of (unread list.now) (option_map stand_of best) (option_map stand_of other) }
 {
     match other {
-        Some(shadow) if !shadow.has_read_any(list) && is_ahead(&shadow, &best) => other,
+        Some(shadow) if !shadow.has_read_any(list) && is_ahead(&shadow, best) => other,
         _ => best,
     }
 }
@@ -47,10 +38,7 @@ fn better(best: Option<Shadow>, other: Option<Shadow>, list: &[WriteEntry]) -> O
 fn keep(entry: Option<Shadow>, own: &[WriteEntry]) -> Option<Shadow>
     ensures { option_map stand_of result ≡ kept own.now (option_map stand_of entry) }
 {
-    match entry {
-        Some(shadow) if shadow.has_read_any(own) => None,
-        _ => entry,
-    }
+    entry.filter(|shadow| !shadow.has_read_any(own))
 }
 
 impl Row {
@@ -61,48 +49,38 @@ impl Row {
         Row { entries: [None; 8] }
     }
 
-    pub(crate) fn get(&self, u: usize) -> Option<Shadow>
-        requires { u < 8 }
+    pub(crate) fn get(&self, u: Slot) -> Option<Shadow>
         ensures { option_map stand_of result ≡ slice_index_or (row_of self.now) u None }
     {
-        self.entries[u]
+        self.entries[u.index()]
     }
 
-    pub(crate) fn put(&mut self, u: usize, entry: Option<Shadow>)
-        requires { u < 8 }
+    pub(crate) fn put(&mut self, u: Slot, entry: Option<Shadow>)
         ensures { row_of self.new ≡ slice_set (row_of self.old) u (option_map stand_of entry) }
     {
-        self.entries[u] = entry;
+        self.entries[u.index()] = entry;
     }
 
     // How many shadows there are.
     pub(crate) fn count(&self) -> usize
         ensures { result ≡ counted (row_of self.now) }
     {
-        let all = &self.entries[..];
-        let mut n = 0;
-        for entry in all {
-            n = tally(n, entry);
-        }
-        n
+        self.entries.iter().filter(|entry| entry.is_some()).count()
     }
 
     // The furthest of slot t's shadows that have read no page of the list.
-    pub(crate) fn furthest_clean(&self, t: usize, list: &[WriteEntry]) -> Option<Shadow>
-        requires { t < 8 }
+    pub(crate) fn furthest_clean(&self, t: Slot, list: &[WriteEntry]) -> Option<Shadow>
         ensures { option_map stand_of result ≡ furthest_of (unread list.now) t (row_of self.now) }
     {
-        let all = &self.entries[..];
-        let mut best = better(None, all[t], list);
-        for entry in all {
+        let mut best = better(None, self.get(t), list);
+        for entry in &self.entries {
             best = better(best, *entry, list);
         }
         best
     }
 
     // The furthest of slot t's shadows: none has read a page of the empty list.
-    pub(crate) fn furthest(&self, t: usize) -> Option<Shadow>
-        requires { t < 8 }
+    pub(crate) fn furthest(&self, t: Slot) -> Option<Shadow>
         ensures { option_map stand_of result ≡ furthest_of any_shadow t (row_of self.now) }
     {
         self.furthest_clean(t, &[])
@@ -112,26 +90,21 @@ impl Row {
     pub(crate) fn drop_readers(&mut self, own: &[WriteEntry])
         ensures { row_of self.new ≡ remaining own.now (row_of self.old) }
     {
-        let all = &mut self.entries[..];
-        for entry in all {
+        // As a slice, whose length a proof keeps.
+        for entry in &mut self.entries[..] {
             *entry = keep(*entry, own);
         }
     }
 
     // Whether slot v's leading shadow has read a page of the list.
-    fn is_spoiled(&self, v: usize, own: &[WriteEntry]) -> bool
-        requires { v < 8 }
+    fn is_spoiled(&self, v: Slot, own: &[WriteEntry]) -> bool
         ensures { result ≡ spoils own.now (slice_index_or (row_of self.now) v None) }
     {
-        match self.get(v) {
-            Some(lead) => lead.has_read_any(own),
-            None => false,
-        }
+        self.get(v).is_some_and(|lead| lead.has_read_any(own))
     }
 
     // Slot v's furthest shadow leads from here on, or else one at step 0.
-    fn lead_again(&mut self, v: usize)
-        requires { v < 8 }
+    fn lead_again(&mut self, v: Slot)
         ensures { row_of self.new ≡ slice_set (row_of self.old) v (Some (unwrap_or (furthest_of any_shadow v (row_of self.old)) started)) }
     {
         let lead = self.furthest(v).unwrap_or(Shadow::start());
@@ -139,8 +112,7 @@ impl Row {
     }
 
     // Slot v's row after a commit of the list: without those that have read a page of it, and with a leading shadow still.
-    pub(crate) fn renew(&mut self, v: usize, own: &[WriteEntry])
-        requires { v < 8 }
+    pub(crate) fn renew(&mut self, v: Slot, own: &[WriteEntry])
         ensures { row_of self.new ≡ renewed own.now v (row_of self.old) }
     {
         let spoiled = self.is_spoiled(v, own);
@@ -153,18 +125,16 @@ impl Row {
     // Lends the shadow for u to one step.
     pub(crate) fn step<R: Reader, A: Arithmetic>(
         &mut self,
-        u: usize,
+        u: Slot,
         step: &Step,
-        reader: &R,
-        arithmetic: &A,
+        machine: &Machine<R, A>,
     ) -> Result<(), StoreFault>
-        requires within { u < 8 }
         requires there { is_some (slice_index_or (row_of self.old) u None) ≡ true }
         requires room { Room (unwrap_or (slice_index_or (row_of self.old) u None) started) }
-        ensures { Lent self.old u (takes (A.Arithmetic.meaning arithmetic.now) (R.Reader.pages reader.now) step.now (unwrap_or (slice_index_or (row_of self.old) u None) started)) result self.new }
+        ensures { Lent self.old u (takes (A.Arithmetic.meaning machine.now.arithmetic.now) (R.Reader.pages machine.now.reader.now) step.now (unwrap_or (slice_index_or (row_of self.old) u None) started)) result self.new }
     {
-        if let Some(shadow) = &mut self.entries[u] {
-            shadow.take_step(step, reader, arithmetic)
+        if let Some(shadow) = &mut self.entries[u.index()] {
+            shadow.take_step(step, machine)
         } else {
             Ok(())
         }

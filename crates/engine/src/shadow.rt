@@ -1,7 +1,7 @@
 // A shadow: how far a script has come on its own, over pages that it does not change.
 ghost use Rattle.std.specs.Prelude.{◌≡◌};
 ghost use Rattle.std.specs.List.{slice_get};
-ghost use Rattle.serial.specs.Machine.{start as started, index, holds, written as word_written, has_read, has_written, has_read_any, indexed, page_read, page_written, store_read, write_of};
+ghost use Rattle.serial.specs.Machine.{start as started, holds, written as word_written, has_read, has_written, has_read_any, indexed, page_read, page_written, store_read, write_of};
 ghost use Rattle.engine.specs.View.{stand_of, Placed};
 
 use basics::Trail;
@@ -11,6 +11,8 @@ use serial::ReadEntry;
 
 mod effects;
 
+// A fork copies it by value. Clauses see it by `stand_of`: a model would forget the unused places of its lists, and a copy
+// needs them.
 #[derive(Clone, Copy)]
 pub struct Shadow {
     step: usize,
@@ -19,34 +21,18 @@ pub struct Shadow {
     own: Trail<WriteEntry, MOST_STEPS>,
 }
 
-fn index_of(register: Register) -> usize
-    ensures { result ≡ index register }
-{
-    match register {
-        Register::R0 => 0,
-        Register::R1 => 1,
-        Register::R2 => 2,
-        Register::R3 => 3,
-    }
-}
-
 // Where a page stands on an own list.
 fn place(own: &[WriteEntry], page: u32) -> Option<usize>
     ensures { Placed own.now page result }
 {
-    for (i, entry) in own.iter().enumerate() {
-        if entry.page == page {
-            return Some(i);
-        }
-    }
-    None
+    own.iter().position(|entry| entry.page == page)
 }
 
 // Whether a page stands on an own list.
 pub(crate) fn has_written(own: &[WriteEntry], page: u32) -> bool
     ensures { result ≡ has_written own.now page }
 {
-    place(own, page).is_some()
+    own.iter().any(|entry| entry.page == page)
 }
 
 impl Shadow {
@@ -91,33 +77,26 @@ impl Shadow {
     pub fn register(&self, register: Register) -> u32
         ensures { result ≡ holds (stand_of self.now) register }
     {
-        self.registers[index_of(register)]
+        self.registers[usize::from(register)]
     }
 
     // The word that the shadow has written to a page.
     pub(crate) fn written(&self, page: u32) -> Option<u32>
         ensures { result ≡ word_written (stand_of self.now).own page }
     {
-        let own = self.own.as_slice();
-        let at = place(own, page)?;
-        Some(own[at].word)
+        let own = self.own();
+        Some(own[place(own, page)?].word)
     }
 
     // Whether a recorded read names the page.
     pub(crate) fn has_read(&self, page: u32) -> bool
         ensures { result ≡ has_read (stand_of self.now).reads page }
     {
-        let reads = self.reads.as_slice();
-        for read in reads {
-            if read.page == page {
-                return true;
-            }
-        }
-        false
+        self.reads().iter().any(|read| read.page == page)
     }
 
-    // Whether a recorded read names a page of the list.
-    pub(crate) fn has_read_any(&self, list: &[WriteEntry]) -> bool
+    // Whether a recorded read names a page of the list. The project wants these loops, left by a label at the first such page.
+    pub fn has_read_any(&self, list: &[WriteEntry]) -> bool
         ensures { result ≡ has_read_any (stand_of self.now).reads list.now }
     {
         let reads = self.reads.as_slice();
@@ -166,10 +145,7 @@ impl Shadow {
         ensures { result ≡ store_read step (stand_of self.now) }
     {
         let page = self.page_read(step?)?;
-        match self.written(page) {
-            Some(_) => None,
-            None => Some(page),
-        }
+        self.written(page).is_none().then_some(page)
     }
 
     // The page that the next step writes, where it is a write.

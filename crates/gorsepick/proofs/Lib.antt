@@ -1,2 +1,1 @@
 mod Halves
-mod Values

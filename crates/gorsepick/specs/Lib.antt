@@ -1,3 +1,4 @@
 pub mod Digits
 pub mod Answers
 pub mod Kinds
+pub mod Chosen

@@ -4,7 +4,7 @@ ghost use Rattle.std.specs.Option.{option_to_list};
 ghost use Rattle.gorsepick.specs.Answers.{Refuses};
 
 use basics::Refusal;
-use serial::{Standing, Turned};
+use serial::{Accepted, ReadEntry, Standing};
 use std::alloc::{AllocError, Global};
 use std::fmt;
 
@@ -13,8 +13,6 @@ const MOST_VALUES: usize = 3;
 
 #[derive(Drop)]
 pub(crate) enum Answer {
-    // a command that prints nothing
-    Silent,
     Size(u32),
     Word(u32),
     Fault { page: u32 },
@@ -27,24 +25,15 @@ pub(crate) enum Answer {
     // a script run alone came to a step for a page that is not there
     Stopped { step: usize, page: u32 },
     Refused { number: u32, values: Vec<usize> },
-    Allowed,
-    Begun,
-    Took(Turned),
-    // register 0, and the number of pages put
-    Committed { word: u32, pages: usize },
-    Aborted,
+    // one of the five calls was accepted
+    Accepted(Accepted),
     Stands { step: usize, standing: Standing },
-    // a recorded read
-    Read { step: usize, page: u32 },
-    NoRead,
+    // a recorded read, where there is one
+    Read(Option<ReadEntry>),
     Shadows { count: usize },
 }
 
 impl Answer {
-    pub(crate) fn is_silent(&self) -> bool {
-        matches!(self, Answer::Silent)
-    }
-
     // Whether the host has put pages of the store.
     pub(crate) fn is_change(&self) -> bool {
         matches!(
@@ -75,26 +64,14 @@ pub(crate) fn refused<F: Refusal>(heap: Global, fault: &F) -> Result<Answer, All
 fn refusal_values<F: Refusal>(heap: Global, fault: &F) -> Result<Vec<usize>, AllocError>
     ensures { IfOk result (λ v. v.items ≡ take 3 (F.Refusal.returned fault.now)) }
 {
-    let mut values = Vec::new(heap);
-    for index in 0..MOST_VALUES {
-        push_value(&mut values, fault.value(index))?;
-    }
-    Ok(values)
-}
-
-fn push_value(values: &mut Vec<usize>, value: Option<usize>) -> Result<(), AllocError>
-    ensures { OnOk result (values.new.items ≡ values.old.items ++ option_to_list value) }
-{
-    if let Some(value) = value {
-        values.push(value)?;
-    }
-    Ok(())
+    (0..MOST_VALUES)
+        .filter_map(|index| fault.value(index))
+        .collect(heap)
 }
 
 impl fmt::Display for Answer {
     fn fmt<W: fmt::Write>(&self, f: &mut fmt::Formatter<W>) -> fmt::Result {
         match self {
-            Answer::Silent => Ok(()),
             Answer::Size(size) => write!(f, "size {size}"),
             Answer::Word(word) => write!(f, "word {word}"),
             Answer::Fault { page } => write!(f, "fault {page}"),
@@ -108,35 +85,22 @@ impl fmt::Display for Answer {
                 write!(f, "refused {number}")?;
                 show_list(f, "", values.as_slice())
             }
-            Answer::Allowed => f.write_str("allowed"),
-            Answer::Begun => f.write_str("begun"),
-            Answer::Took(turned) => f.write_str(turned_word(*turned)),
-            Answer::Committed { word, pages } => write!(f, "committed {word} {pages}"),
-            Answer::Aborted => f.write_str("aborted"),
-            Answer::Stands { step, standing } => {
-                write!(f, "step {step} ")?;
-                f.write_str(standing_word(*standing))
-            }
-            Answer::Read { step, page } => write!(f, "step {step} page {page}"),
-            Answer::NoRead => f.write_str("absent"),
+            Answer::Accepted(accepted) => show_accepted(f, *accepted),
+            Answer::Stands { step, standing } => write!(f, "step {step} {standing}"),
+            Answer::Read(Some(read)) => write!(f, "step {} page {}", read.step, read.page),
+            Answer::Read(None) => f.write_str("absent"),
             Answer::Shadows { count } => write!(f, "{count} shadows"),
         }
     }
 }
 
-fn turned_word(turned: Turned) -> &'static str {
-    match turned {
-        Turned::Moved => "moved",
-        Turned::Ended => "ended",
-        Turned::Waiting => "waiting",
-    }
-}
-
-fn standing_word(standing: Standing) -> &'static str {
-    match standing {
-        Standing::AtEnd => "ended",
-        Standing::Halted => "waiting",
-        Standing::Ready => "ready",
+fn show_accepted<W: fmt::Write>(f: &mut fmt::Formatter<W>, accepted: Accepted) -> fmt::Result {
+    match accepted {
+        Accepted::Allowed => f.write_str("allowed"),
+        Accepted::Begun => f.write_str("begun"),
+        Accepted::Took(turned) => write!(f, "{turned}"),
+        Accepted::Committed(word, pages) => write!(f, "committed {word} {pages}"),
+        Accepted::Aborted => f.write_str("aborted"),
     }
 }
 

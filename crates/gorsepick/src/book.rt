@@ -1,54 +1,67 @@
 // The serial book: what the transactions committed so far come to, each run alone, one after the other.
 use crate::command::Made;
+use crate::memory::Memory;
 use arithmetic::Delivered;
 use engine::run_alone;
 use pages::Flat;
-use serial::Answer;
+use serial::{Accepted, Answer};
 use std::alloc::{AllocError, Global};
 use std::collections::BTreeMap;
 
 #[derive(Drop)]
-pub(crate) struct Book {
-    // whether the book has its first pages
-    pub(crate) begun: bool,
-    // whether the host has changed something since then, so that the book is to start anew
-    pub(crate) stale: bool,
-    // whether the book started anew while a slot was open
-    pub(crate) unclaimed: bool,
-    // whether all slots were closed when the book began
-    pub(crate) whole: bool,
-    // whether every commit has answered as the run alone did
-    pub(crate) agrees: bool,
+enum Stage {
+    // no store was given yet
+    Awaited,
+    // the host has changed something, so that the book is to start anew
+    Stale,
+    Begun(Begun),
+}
+
+#[derive(Drop)]
+pub(crate) struct Begun {
+    // the store's memory when the book began, for its calls to be made again over it; none where it began with a slot
+    // open whose script it does not have
+    pub(crate) first: Option<Memory>,
+    // what the store's pages then, and the transactions committed since, come to
     pub(crate) pages: Vec<u32>,
-    // the words of the store's memory when the book began
-    pub(crate) first: Vec<u32>,
+}
+
+#[derive(Drop)]
+pub(crate) struct Book {
+    stage: Stage,
+    // whether the book ever started anew while a slot was open: a flag, since no more is told of it, and beside the
+    // stages, since it outlasts them
+    pub(crate) unclaimed: bool,
+    // whether every commit has answered as the run alone did: a flag for the same two reasons
+    pub(crate) agrees: bool,
     // by slot: the scripts begun and not yet closed
     scripts: BTreeMap<u32, Vec<u8>>,
-    // the calls since the book began, and what they answered
-    pub(crate) calls: Vec<Made>,
-    pub(crate) answers: Vec<Answer>,
+    // the calls since the book began, each with what it answered
+    pub(crate) calls: Vec<(Made, Answer)>,
 }
 
 impl Book {
     pub(crate) fn new(heap: Global) -> Book {
         Book {
-            begun: false,
-            stale: false,
+            stage: Stage::Awaited,
             unclaimed: false,
-            whole: true,
             agrees: true,
-            pages: Vec::new(heap),
-            first: Vec::new(heap),
             scripts: BTreeMap::new(heap),
             calls: Vec::new(heap),
-            answers: Vec::new(heap),
+        }
+    }
+
+    // What the book began with, once it has.
+    pub(crate) fn begun(&self) -> Option<&Begun> {
+        match &self.stage {
+            Stage::Begun(begun) => Some(begun),
+            Stage::Awaited | Stage::Stale => None,
         }
     }
 
     // The host has changed store, arithmetic or pages.
     pub(crate) fn spoil(&mut self) {
-        self.begun = false;
-        self.stale = true;
+        self.stage = Stage::Stale;
     }
 
     // Begins the book with these pages. Calls made before the first store was given count as made with it; where the book
@@ -56,39 +69,26 @@ impl Book {
     pub(crate) fn begin(
         &mut self,
         pages: Vec<u32>,
-        first: Vec<u32>,
+        first: Memory,
         any_open: bool,
         allowance: u32,
     ) -> Result<(), AllocError> {
-        if self.stale {
-            self.forget();
-            self.whole = !any_open;
-            self.unclaimed = self.unclaimed || any_open;
-            self.keep(Made::Allow { allowance }, Answer::Allowed)?;
+        let anew = matches!(self.stage, Stage::Stale);
+        if anew {
+            self.scripts.clear();
+            self.calls.clear();
+            self.unclaimed |= any_open;
+            self.keep(Made::Allow { allowance }, Ok(Accepted::Allowed))?;
         }
-        self.pages = pages;
-        self.first = first;
-        self.stale = false;
-        self.begun = true;
+        let is_whole = !(anew && any_open);
+        let first = is_whole.then_some(first);
+        self.stage = Stage::Begun(Begun { first, pages });
         Ok(())
-    }
-
-    fn forget(&mut self) {
-        self.scripts.clear();
-        self.calls.clear();
-        self.answers.clear();
     }
 
     // Keeps a call and its answer.
     pub(crate) fn keep(&mut self, made: Made, answer: Answer) -> Result<(), AllocError> {
-        self.calls.push(made)?;
-        self.answers.push(answer)?;
-        Ok(())
-    }
-
-    // Whether the transaction in the slot began after the book.
-    pub(crate) fn has_script(&self, slot: u32) -> bool {
-        self.scripts.get(&slot).is_some()
+        Ok(self.calls.push((made, answer))?)
     }
 
     pub(crate) fn enter(&mut self, slot: u32, bytes: Vec<u8>) -> Result<(), AllocError> {
@@ -96,27 +96,23 @@ impl Book {
         Ok(())
     }
 
-    pub(crate) fn strike_out(&mut self, slot: u32) {
-        let _ = self.scripts.remove(&slot);
+    // The slot's script is not to be run any more. There is none where its transaction began before the book.
+    pub(crate) fn strike_out(&mut self, slot: u32) -> Option<Vec<u8>> {
+        self.scripts.remove(&slot)
     }
 
-    // Runs the slot's script alone over the book's pages, compares its answer with the commit's, and strikes it out.
-    pub(crate) fn commit(&mut self, slot: u32, arithmetic: Delivered, word: u32, count: usize) {
-        if let Some(bytes) = self.scripts.remove(&slot) {
-            let same = self.runs_to(bytes.as_slice(), arithmetic, word, count);
-            self.agrees = self.agrees && same;
+    // Runs a committed script alone over the book's pages, and compares what it comes to with the commit's answer.
+    pub(crate) fn run(&mut self, bytes: &[u8], arithmetic: Delivered, told: (u32, usize)) {
+        if let Stage::Begun(begun) = &mut self.stage {
+            let pages = &mut Flat::new(begun.pages.as_mut_slice());
+            self.agrees &= run_alone(bytes, pages, &arithmetic) == Ok(told);
         }
     }
 
-    // Runs a script alone over the book's pages; whether its answer is this one.
-    fn runs_to(&mut self, bytes: &[u8], arithmetic: Delivered, word: u32, count: usize) -> bool {
-        match run_alone(
-            bytes,
-            &mut Flat::new(self.pages.as_mut_slice()),
-            &arithmetic,
-        ) {
-            Ok((alone_word, alone_count)) => alone_word == word && alone_count == count,
-            Err(_) => false,
+    // Goes on with the pages that a transaction left which is not run again.
+    pub(crate) fn take_over(&mut self, pages: Vec<u32>) {
+        if let Stage::Begun(begun) = &mut self.stage {
+            begun.pages = pages;
         }
     }
 }

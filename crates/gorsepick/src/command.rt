@@ -1,4 +1,5 @@
 // What a scenario asks for, line by line.
+use crate::memory::Memory;
 use arithmetic::Delivered;
 use engine::Call;
 
@@ -11,8 +12,8 @@ pub(crate) struct Line {
 
 #[derive(Drop)]
 pub(crate) enum Command {
-    Flat(Vec<u32>),
-    Log(Vec<u32>),
+    // a store over this memory
+    Store(Memory),
     Arithmetic(Delivered),
     // its bytes are kept as the scenario is read
     Script,
@@ -21,13 +22,19 @@ pub(crate) enum Command {
     Ask(Request),
     // one of the five calls
     Make(Made),
+    Look(Question),
+}
+
+// What is asked of the engine, between calls, or of the serial book.
+#[derive(Drop)]
+pub(crate) enum Question {
     Stand { slot: u32, other: u32 },
     Entry { slot: u32, other: u32, index: u32 },
     Shadows,
     Book,
 }
 
-// One of the five calls, with the bytes that it is made with.
+// One of the five calls, with the bytes that it is made with: the engine's own `Call` only borrows them.
 #[derive(Drop)]
 pub(crate) enum Made {
     Allow { allowance: u32 },
@@ -79,7 +86,7 @@ impl Command {
     // Whether an earlier line has to give a store.
     pub(crate) fn needs_store(&self) -> bool {
         match self {
-            Command::Words | Command::Ask(_) | Command::Book => true,
+            Command::Words | Command::Ask(_) | Command::Look(Question::Book) => true,
             Command::Make(made) => made.needs_store(),
             _ => false,
         }

@@ -1,5 +1,5 @@
 // What ends the program with status 1.
-use std::alloc::{AllocError, AllocFailed};
+use std::alloc::AllocError;
 use std::{fmt, io};
 
 // What is wrong with a line of the scenario.
@@ -26,26 +26,15 @@ pub(crate) enum Failure {
     Line { number: usize, mistake: Mistake },
 }
 
-impl From<AllocError> for Mistake {
-    fn from(_error: AllocError) -> Mistake {
-        Mistake::Memory
-    }
-}
-
-impl<T: Drop> From<AllocFailed<T>> for Mistake {
-    fn from(_error: AllocFailed<T>) -> Mistake {
+// Whatever an allocation fails with.
+impl<E: Into<AllocError> + Drop> From<E> for Mistake {
+    fn from(_error: E) -> Mistake {
         Mistake::Memory
     }
 }
 
 impl From<AllocError> for Failure {
     fn from(_error: AllocError) -> Failure {
-        Failure::Memory
-    }
-}
-
-impl<T: Drop> From<AllocFailed<T>> for Failure {
-    fn from(_error: AllocFailed<T>) -> Failure {
         Failure::Memory
     }
 }

@@ -5,6 +5,7 @@ mod answer;
 mod book;
 mod command;
 mod failure;
+mod memory;
 mod parse;
 mod replay;
 mod session;
@@ -14,11 +15,13 @@ mod summary;
 mod text;
 
 use answer::Answer;
+use engine::Engine;
 use failure::Failure;
 use parse::parse_scenario;
 use session::Session;
 use shadows::print_shadows;
 use std::process::ExitCode;
+use std::rt::{Env, Files};
 use std::{env, fs, io};
 use summary::{Tally, print_summary};
 
@@ -69,43 +72,35 @@ fn main(rt: HostRuntime) -> ExitCode {
     }
 }
 
-fn run(rt: &HostRuntime) -> Result<(), Failure> {
-    let mut arguments = env::args(rt)?.skip(1);
-    let first = arguments.next();
-    if arguments.next().is_some() {
-        return Err(Failure::Arguments);
-    }
-    match first {
-        None => carry_out(rt, io::read_to_string(rt.alloc(), rt.stdin())),
-        Some(argument) => {
-            if argument.as_str() == "--help" {
-                print!(rt; "{HELP}")?;
-                return Ok(());
-            }
-            carry_out(rt, fs::read_to_string(rt, argument.as_str()))
-        }
+fn run(rt: &(impl Env + Files + Input + Print + AllocGlobal)) -> Result<(), Failure> {
+    let arguments = env::args(rt)?.collect::<Vec<String>>(rt.alloc())?;
+    match arguments.as_slice() {
+        [] | [_] => carry_out(rt, io::read_to_string(rt.alloc(), rt.reader())),
+        [_, argument] if argument.as_str() == "--help" => Ok(print!(rt; "{HELP}")?),
+        [_, argument] => carry_out(rt, fs::read_to_string(rt, argument.as_str())),
+        _ => Err(Failure::Arguments),
     }
 }
 
 // Checks the whole scenario, then carries it out command by command.
-fn carry_out(rt: &HostRuntime, input: io::Result<String>) -> Result<(), Failure> {
-    let text = match input {
-        Ok(text) => text,
-        Err(error) => return Err(Failure::Unread(error)),
-    };
+fn carry_out(rt: &(impl Print + AllocGlobal), input: io::Result<String>) -> Result<(), Failure> {
+    let text = input.map_err(Failure::Unread)?;
     let heap = rt.alloc();
     let mut session = Session::new(heap);
-    let mut tally = Tally::new();
+    let mut tally = Tally::default();
     for line in parse_scenario(heap, text.as_str())? {
         let answer = session.carry_out(heap, line.command)?;
-        tally.count(&answer);
-        if let Answer::Shadows { .. } = &answer {
-            print_shadows(rt, &session.engine)?;
-        }
-        if !answer.is_silent() {
-            let text = line.text;
-            println!(rt; "{text} -> {answer}")?;
+        tally.count(answer.as_ref());
+        if let Some(answer) = answer {
+            print_answer(rt, &session.engine, line.text.as_str(), &answer)?;
         }
     }
-    print_summary(rt, &mut session, &tally)
+    print_summary(rt, &mut session, tally)
+}
+
+fn print_answer(rt: &impl Print, engine: &Engine, text: &str, answer: &Answer) -> io::Result<()> {
+    if let Answer::Shadows { .. } = answer {
+        print_shadows(rt, engine)?;
+    }
+    println!(rt; "{text} -> {answer}")
 }

@@ -3,61 +3,26 @@ use crate::command::Made;
 use arithmetic::Delivered;
 use engine::{Call, carry_out};
 use pages::Store;
-use serial::Answer;
+use serial::{Accepted, Answer};
 use std::alloc::{AllocError, Global};
 
 // Carries the calls out again over a store; whether they answer as they did.
 pub(crate) fn replays<S: Store>(
     heap: Global,
-    made: &[Made],
-    answers: &[Answer],
+    calls: &[(Made, Answer)],
     store: &mut S,
     arithmetic: Delivered,
 ) -> Result<bool, AllocError> {
-    let calls = calls_of(heap, made)?;
-    let mut again = blank_answers(heap, made.len())?;
-    let _ = carry_out(calls.as_slice(), again.as_mut_slice(), store, &arithmetic);
-    Ok(same_answers(again.as_slice(), answers))
-}
-
-fn calls_of(heap: Global, made: &[Made]) -> Result<Vec<Call<'_>>, AllocError> {
-    let mut calls = Vec::new(heap);
-    for one in made {
-        calls.push(one.as_call())?;
-    }
-    Ok(calls)
-}
-
-// Room for answers.
-fn blank_answers(heap: Global, count: usize) -> Result<Vec<Answer>, AllocError> {
-    let mut answers = Vec::new(heap);
-    for _ in 0..count {
-        answers.push(Answer::Allowed)?;
-    }
-    Ok(answers)
-}
-
-fn same_answers(left: &[Answer], right: &[Answer]) -> bool {
-    if left.len() != right.len() {
-        return false;
-    }
-    for (one, other) in left.iter().zip(right.iter()) {
-        if one != other {
-            return false;
-        }
-    }
-    true
-}
-
-// Whether two lists hold the same words.
-pub(crate) fn same_words(left: &[u32], right: &[u32]) -> bool {
-    if left.len() != right.len() {
-        return false;
-    }
-    for (one, other) in left.iter().zip(right.iter()) {
-        if one != other {
-            return false;
-        }
-    }
-    true
+    let again = calls
+        .iter()
+        .map(|(made, _)| made.as_call())
+        .collect::<Vec<Call<'_>>>(heap)?;
+    let mut answers = vec![in heap; Ok(Accepted::Allowed); calls.len()]?;
+    let _ = carry_out(again.as_slice(), answers.as_mut_slice(), store, &arithmetic);
+    Ok(
+        calls
+            .iter()
+            .zip(answers.iter())
+            .all(|((_, before), now)| before == now),
+    )
 }

@@ -1,5 +1,5 @@
 // The host's side: the memory of the store, what the scenario keeps, and the commands carried out over them.
-ghost use Rattle.std.specs.Prelude.{◌≡◌, ℕ, ◌<◌, length, IfOk, Result, slice_index};
+ghost use Rattle.std.specs.Prelude.{◌≡◌, ℕ, ◌<◌, length, IfOk, MatchResult, Result, slice_index};
 ghost use Rattle.arithmetic.specs.Words.{delivered};
 ghost use Rattle.pages.specs.Image.{image_fault};
 ghost use Rattle.pages.specs.Load.{ImageLoaded};
@@ -9,37 +9,33 @@ ghost use Rattle.pages.specs.declared.fault.ImageLoadFault.{ImageLoadFault};
 ghost use Rattle.script.specs.Script.{decoded};
 ghost use Rattle.engine.specs.Alone.{RanAlone};
 ghost use Rattle.engine.specs.declared.alone.AloneFault.{AloneFault};
-ghost use Rattle.gorsepick.specs.Answers.{read_answer, put_answer, ShowsImage, LoadAnswer, AloneAnswer, Answered};
+ghost use Rattle.gorsepick.specs.Answers.{read_answer, put_answer, Shows, ShowsImage, LoadAnswer, AloneAnswer, Answered, Refuses};
 ghost use Rattle.gorsepick.specs.Kinds.{store_pages};
 
 use crate::answer::{Answer, refused};
 use crate::book::Book;
-use crate::command::{Command, Made, Request};
-use crate::replay::{replays, same_words};
+use crate::command::{Command, Made, Question, Request};
+use crate::memory::{Memory, open};
+use crate::replay::replays;
+use crate::shadows::SLOTS;
 use crate::spoils::{Spoils, would_spoil};
 use arithmetic::Delivered;
+use basics::Refusal;
 use engine::{AloneFault, Engine, run_alone};
-use pages::{Flat, Image, Log, Reader, Store, load_image};
+use pages::{Image, Reader, Store, load_image};
+use serial::Accepted;
 use std::alloc::{AllocError, Global};
-
-// How the words of the memory are to be read. Until a scenario gives some there are none, and they are no store.
-#[derive(Clone, Copy, PartialEq, Eq)]
-pub(crate) enum Kind {
-    Absent,
-    Flat,
-    Log,
-}
 
 #[derive(Drop)]
 pub(crate) struct Session {
-    pub(crate) kind: Kind,
-    words: Vec<u32>,
+    // of the store, once the scenario has given one
+    pub(crate) memory: Option<Memory>,
     arithmetic: Delivered,
     pub(crate) engine: Engine,
-    // the allowance of the engine
+    // the allowance of the engine, which does not tell it
     allowance: u32,
     pub(crate) book: Book,
-    // whether the scenario has asked anything of the engine
+    // whether the scenario has asked anything of the engine: a flag, since a question leaves no other trace
     pub(crate) uses_engine: bool,
     pub(crate) committed: usize,
     pub(crate) spoils: Spoils,
@@ -48,47 +44,52 @@ pub(crate) struct Session {
 impl Session {
     pub(crate) fn new(heap: Global) -> Session {
         Session {
-            kind: Kind::Absent,
-            words: Vec::new(heap),
+            memory: None,
             arithmetic: Delivered::Counting,
             engine: Engine::new(),
             allowance: 2,
             book: Book::new(heap),
             uses_engine: false,
             committed: 0,
-            spoils: Spoils::new(),
+            spoils: Spoils::default(),
         }
     }
 
+    // Carries a command out. Some have nothing to answer.
     pub(crate) fn carry_out(
         &mut self,
         heap: Global,
         command: Command,
-    ) -> Result<Answer, AllocError> {
-        match command {
-            Command::Flat(words) => self.take_store(heap, Kind::Flat, words),
-            Command::Log(words) => self.take_store(heap, Kind::Log, words),
+    ) -> Result<Option<Answer>, AllocError> {
+        let answer = match command {
+            Command::Store(memory) => self.take_store(heap, memory)?,
             Command::Arithmetic(arithmetic) => {
                 self.note_change();
                 self.arithmetic = arithmetic;
-                Ok(Answer::Silent)
+                return Ok(None);
             }
-            Command::Script => Ok(Answer::Silent),
-            Command::Image(bytes) => show_image(heap, bytes.as_slice()),
-            Command::Words => Ok(Answer::Words(self.words.clone()?)),
-            Command::Ask(request) => self.ask_as_host(heap, request),
-            asked => {
-                self.uses_engine = true;
-                self.ask_engine(heap, asked)
-            }
-        }
+            Command::Script => return Ok(None),
+            Command::Image(bytes) => show_image(heap, bytes.as_slice())?,
+            Command::Words => self.words(heap)?,
+            Command::Ask(request) => self.ask_as_host(heap, request)?,
+            Command::Make(made) => self.make(heap, made)?,
+            Command::Look(question) => self.look(heap, question)?,
+        };
+        Ok(Some(answer))
     }
 
     // The host changes store, arithmetic or pages; before the first store there is nothing to change.
     fn note_change(&mut self) {
-        if self.kind != Kind::Absent {
+        if self.memory.is_some() {
             self.book.spoil();
         }
+    }
+
+    fn words(&self, heap: Global) -> Result<Answer, AllocError> {
+        Ok(Answer::Words(match &self.memory {
+            None => Vec::new(heap),
+            Some(memory) => memory.words.clone()?,
+        }))
     }
 
     fn ask_as_host(&mut self, heap: Global, request: Request) -> Result<Answer, AllocError> {
@@ -99,65 +100,71 @@ impl Session {
         Ok(answer)
     }
 
-    // What is asked of the engine or of the serial book.
-    fn ask_engine(&mut self, heap: Global, command: Command) -> Result<Answer, AllocError> {
-        match command {
-            Command::Make(made) => self.make(heap, made),
-            Command::Stand { slot, other } => stand(heap, &self.engine, slot, other),
-            Command::Entry { slot, other, index } => entry(heap, &self.engine, slot, other, index),
-            Command::Shadows => Ok(Answer::Shadows {
+    // What is asked of the engine, between calls, or of the serial book.
+    fn look(&mut self, heap: Global, question: Question) -> Result<Answer, AllocError> {
+        self.uses_engine = true;
+        match question {
+            Question::Stand { slot, other } => {
+                shown(heap, self.engine.stand(slot, other), |(step, standing)| {
+                    Answer::Stands { step, standing }
+                })
+            }
+            Question::Entry { slot, other, index } => {
+                let read = self.engine.read_entry(slot, other, index as usize);
+                shown(heap, read, |read| Answer::Read(read))
+            }
+            Question::Shadows => Ok(Answer::Shadows {
                 count: count_shadows(&self.engine),
             }),
-            Command::Book => {
-                self.begin_book(heap)?;
-                Ok(Answer::Pages(self.book.pages.clone()?))
-            }
-            _ => Ok(Answer::Silent),
+            Question::Book => self.book_pages(heap),
         }
+    }
+
+    fn book_pages(&mut self, heap: Global) -> Result<Answer, AllocError> {
+        self.begin_book(heap)?;
+        Ok(Answer::Pages(match self.book.begun() {
+            None => Vec::new(heap),
+            Some(begun) => begun.pages.clone()?,
+        }))
     }
 
     // Begins the book, where it waits for that and a store is given.
     pub(crate) fn begin_book(&mut self, heap: Global) -> Result<(), AllocError> {
-        if self.book.begun || self.kind == Kind::Absent {
-            return Ok(());
+        match &mut self.memory {
+            Some(memory) if self.book.begun().is_none() => {
+                let pages = all_pages(heap, &memory.open())?;
+                let first = memory.clone()?;
+                let any_open = is_any_open(&self.engine);
+                self.book.begin(pages, first, any_open, self.allowance)
+            }
+            _ => Ok(()),
         }
-        let pages = self.pages(heap)?;
-        let first = self.words.clone()?;
-        let any_open = is_any_open(&self.engine);
-        self.book.begin(pages, first, any_open, self.allowance)
     }
 
     // Makes one of the five calls, and enters it in the book.
     fn make(&mut self, heap: Global, made: Made) -> Result<Answer, AllocError> {
+        self.uses_engine = true;
         self.begin_book(heap)?;
         let spoiled = match &made {
-            Made::Commit { slot } => would_spoil(&self.engine, *slot),
-            _ => [false; 8],
+            Made::Commit { slot } => would_spoil(heap, &self.engine, *slot)?,
+            _ => Vec::new(heap),
         };
         let answer = self.call(&made);
         self.enter(heap, &made, answer)?;
-        if let serial::Answer::Committed(_, _) = answer {
+        if let Ok(Accepted::Committed(_, _)) = answer {
             self.committed = self.committed.saturating_add(1);
-            self.spoils.count(&self.engine, spoiled);
+            self.spoils.count(&self.engine, spoiled.as_slice());
         }
         self.book.keep(made, answer)?;
-        shown(heap, answer)
+        shown(heap, answer, |accepted| Answer::Accepted(accepted))
     }
 
     fn call(&mut self, made: &Made) -> serial::Answer {
-        let call = made.as_call();
-        match self.kind {
-            Kind::Log => self.engine.call(
-                &call,
-                &mut Log::new(self.words.as_mut_slice()),
-                &self.arithmetic,
-            ),
-            Kind::Flat | Kind::Absent => self.engine.call(
-                &call,
-                &mut Flat::new(self.words.as_mut_slice()),
-                &self.arithmetic,
-            ),
-        }
+        self.engine.call(
+            &made.as_call(),
+            &mut open(&mut self.memory),
+            &self.arithmetic,
+        )
     }
 
     // Enters a call in the book, where it is accepted.
@@ -168,18 +175,18 @@ impl Session {
         answer: serial::Answer,
     ) -> Result<(), AllocError> {
         match (made, answer) {
-            (Made::Allow { allowance }, serial::Answer::Allowed) => {
+            (Made::Allow { allowance }, Ok(Accepted::Allowed)) => {
                 self.allowance = *allowance;
                 Ok(())
             }
-            (Made::Begin { slot, bytes }, serial::Answer::Begun) => {
+            (Made::Begin { slot, bytes }, Ok(Accepted::Begun)) => {
                 self.book.enter(*slot, bytes.clone()?)
             }
-            (Made::Commit { slot }, serial::Answer::Committed(word, count)) => {
-                self.enter_commit(heap, *slot, word, count)
+            (Made::Commit { slot }, Ok(Accepted::Committed(word, count))) => {
+                self.enter_commit(heap, *slot, (word, count))
             }
-            (Made::Abort { slot }, serial::Answer::Aborted) => {
-                self.book.strike_out(*slot);
+            (Made::Abort { slot }, Ok(Accepted::Aborted)) => {
+                let _ = self.book.strike_out(*slot);
                 Ok(())
             }
             _ => Ok(()),
@@ -191,146 +198,75 @@ impl Session {
         &mut self,
         heap: Global,
         slot: u32,
-        word: u32,
-        count: usize,
+        told: (u32, usize),
     ) -> Result<(), AllocError> {
-        if self.book.has_script(slot) {
-            self.book.commit(slot, self.arithmetic, word, count);
-        } else {
-            self.book.pages = self.pages(heap)?;
+        match self.book.strike_out(slot) {
+            Some(bytes) => self.book.run(bytes.as_slice(), self.arithmetic, told),
+            None => {
+                let pages = self.pages(heap)?;
+                self.book.take_over(pages);
+            }
         }
         Ok(())
     }
 
     // Carries out the calls since the book began once more, on a fresh engine over the memory that the store then had.
     // Whether answers and memory come out the same.
-    pub(crate) fn replays(&self, heap: Global) -> Result<bool, AllocError> {
-        let mut memory = self.book.first.clone()?;
-        let made = self.book.calls.as_slice();
-        let answers = self.book.answers.as_slice();
-        let same = match self.kind {
-            Kind::Log => replays(
-                heap,
-                made,
-                answers,
-                &mut Log::new(memory.as_mut_slice()),
-                self.arithmetic,
-            )?,
-            Kind::Flat | Kind::Absent => replays(
-                heap,
-                made,
-                answers,
-                &mut Flat::new(memory.as_mut_slice()),
-                self.arithmetic,
-            )?,
-        };
-        Ok(same && same_words(memory.as_slice(), self.words.as_slice()))
+    pub(crate) fn replays(&self, heap: Global, first: &Memory) -> Result<bool, AllocError> {
+        let mut memory = first.clone()?;
+        let calls = self.book.calls.as_slice();
+        let same = replays(heap, calls, &mut memory.open(), self.arithmetic)?;
+        Ok(same && self.memory == Some(memory))
     }
 
-    fn take_store(
-        &mut self,
-        heap: Global,
-        kind: Kind,
-        words: Vec<u32>,
-    ) -> Result<Answer, AllocError> {
+    fn take_store(&mut self, heap: Global, memory: Memory) -> Result<Answer, AllocError> {
         self.note_change();
-        self.kind = kind;
-        self.words = words;
+        self.memory = Some(memory);
         self.ask(heap, Request::Size)
     }
 
     // All pages of the store.
     pub(crate) fn pages(&mut self, heap: Global) -> Result<Vec<u32>, AllocError>
-        ensures { IfOk result (λ v. v.items ≡ store_pages self.old.kind self.old.words.items) }
+        ensures { IfOk result (λ v. v.items ≡ store_pages self.old.memory) }
     {
-        match self.kind {
-            Kind::Log => all_pages(heap, &Log::new(self.words.as_mut_slice())),
-            Kind::Flat | Kind::Absent => all_pages(heap, &Flat::new(self.words.as_mut_slice())),
-        }
+        all_pages(heap, &open(&mut self.memory))
     }
 
     // Asks the store, whichever kind it is.
     fn ask(&mut self, heap: Global, request: Request) -> Result<Answer, AllocError> {
-        match self.kind {
-            Kind::Log => answer(
-                heap,
-                &mut Log::new(self.words.as_mut_slice()),
-                self.arithmetic,
-                request,
-            ),
-            Kind::Flat | Kind::Absent => answer(
-                heap,
-                &mut Flat::new(self.words.as_mut_slice()),
-                self.arithmetic,
-                request,
-            ),
-        }
+        answer(heap, &mut open(&mut self.memory), self.arithmetic, request)
     }
 }
 
-// The answer of one of the five calls.
-fn shown(heap: Global, answer: serial::Answer) -> Result<Answer, AllocError> {
-    match answer {
-        serial::Answer::Allowed => Ok(Answer::Allowed),
-        serial::Answer::Begun => Ok(Answer::Begun),
-        serial::Answer::Took(turned) => Ok(Answer::Took(turned)),
-        serial::Answer::Committed(word, pages) => Ok(Answer::Committed { word, pages }),
-        serial::Answer::Aborted => Ok(Answer::Aborted),
-        serial::Answer::Declined(fault) => refused(heap, &fault),
-    }
-}
-
-// Where a shadow stands.
-fn stand(heap: Global, engine: &Engine, slot: u32, other: u32) -> Result<Answer, AllocError> {
-    match engine.stand(slot, other) {
-        Ok((step, standing)) => Ok(Answer::Stands { step, standing }),
-        Err(fault) => refused(heap, &fault),
-    }
-}
-
-// A recorded read of a shadow.
-fn entry(
+// What was told, as an answer, or the refusal.
+fn shown<T, E: Refusal + Drop, F: FnOnce(T) -> Answer>(
     heap: Global,
-    engine: &Engine,
-    slot: u32,
-    other: u32,
-    index: u32,
-) -> Result<Answer, AllocError> {
-    match engine.read_entry(slot, other, index as usize) {
-        Ok(Some(read)) => Ok(Answer::Read {
-            step: read.step,
-            page: read.page,
-        }),
-        Ok(None) => Ok(Answer::NoRead),
+    told: Result<T, E>,
+    show: F,
+) -> Result<Answer, AllocError>
+    requires { F.IsAlwaysCallable show }
+    ensures { IfOk result (λ a. MatchResult told (λ x. F.post show x a) (λ e. Refuses (E.Refusal.cause e) (E.Refusal.returned e) a)) }
+{
+    match told {
+        Ok(told) => Ok(show(told)),
         Err(fault) => refused(heap, &fault),
     }
 }
 
 fn is_any_open(engine: &Engine) -> bool {
-    for slot in 0..8u32 {
-        if engine.shadow(slot, slot).is_some() {
-            return true;
-        }
-    }
-    false
+    (0..SLOTS).any(|slot| engine.shadow(slot, slot).is_some())
 }
 
 fn count_shadows(engine: &Engine) -> usize {
-    let mut count = 0usize;
-    for slot in 0..8u32 {
-        count = count.saturating_add(count_row(engine, slot));
-    }
-    count
+    (0..SLOTS).fold(0usize, |count, slot| {
+        count.saturating_add(count_row(engine, slot))
+    })
 }
 
 fn count_row(engine: &Engine, slot: u32) -> usize {
-    let mut count = 0usize;
-    for other in 0..8u32 {
-        if engine.shadow(slot, other).is_some() {
-            count = count.saturating_add(1);
-        }
-    }
-    count
+    (0..SLOTS)
+        .filter(|other| engine.shadow(slot, *other).is_some())
+        .count()
 }
 
 fn answer<S: Store>(
@@ -345,7 +281,7 @@ fn answer<S: Store>(
         Request::Size => Ok(Answer::Size(store.size())),
         Request::Get { page } => Ok(get(store, page)),
         Request::Put { page, word } => Ok(put(store, page, word)),
-        Request::Pages => Ok(Answer::Pages(all_pages(heap, store)?)),
+        Request::Pages => show_pages(heap, store),
         Request::Load(bytes) => load(heap, store, bytes.as_slice()),
         Request::Alone(bytes) => alone(heap, store, arithmetic, bytes.as_slice()),
     }
@@ -372,10 +308,7 @@ fn put<S: Store>(store: &mut S, page: u32, word: u32) -> Answer
 fn load<S: Store>(heap: Global, store: &mut S, bytes: &[u8]) -> Result<Answer, AllocError>
     ensures { IfOk result (λ a. (o : Result (Unit {0}) ImageLoadFault) × ImageLoaded S.Reader.pages S.Store.wrote bytes.now store.old o store.new × LoadAnswer o a) }
 {
-    match load_image(bytes, store) {
-        Ok(()) => Ok(Answer::Loaded),
-        Err(fault) => refused(heap, &fault),
-    }
+    shown(heap, load_image(bytes, store), |()| Answer::Loaded)
 }
 
 // Runs a script alone over the store.
@@ -401,20 +334,24 @@ fn show_image(heap: Global, bytes: &[u8]) -> Result<Answer, AllocError>
     ensures { IfOk result (ShowsImage bytes.now (image_fault bytes.now)) }
 {
     match Image::parse(bytes) {
-        Ok(image) => Ok(Answer::Pages(all_pages(heap, &image)?)),
+        Ok(image) => show_pages(heap, &image),
         Err(fault) => refused(heap, &fault),
     }
+}
+
+fn show_pages<R: Reader>(heap: Global, reader: &R) -> Result<Answer, AllocError>
+    ensures { IfOk result (Shows (R.Reader.pages reader.now)) }
+{
+    Ok(Answer::Pages(all_pages(heap, reader)?))
 }
 
 // All pages of a reader, in order.
 fn all_pages<R: Reader>(heap: Global, reader: &R) -> Result<Vec<u32>, AllocError>
     ensures { IfOk result (λ v. v.items ≡ R.Reader.pages reader.now) }
 {
-    let mut pages = Vec::new(heap);
-    for page in 0..reader.size() {
-        pages.push(page_word(reader, page))?;
-    }
-    Ok(pages)
+    (0..reader.size())
+        .map(|page| page_word(reader, page))
+        .collect(heap)
 }
 
 // The word of a page that is there.
@@ -422,8 +359,5 @@ fn page_word<R: Reader>(reader: &R, page: u32) -> u32
     requires { page < length (R.Reader.pages reader.now) }
     ensures { result ≡ slice_index (R.Reader.pages reader.now) page }
 {
-    match reader.read(page) {
-        Ok(word) => word,
-        Err(_) => 0,
-    }
+    reader.read(page).unwrap()
 }

@@ -1,47 +1,46 @@
 // What the program says at the end, in plain words.
 use crate::answer::Answer;
+use crate::book::Begun;
 use crate::failure::Failure;
-use crate::replay::same_words;
-use crate::session::{Kind, Session};
+use crate::memory::{Kind, Memory};
+use crate::session::Session;
+use crate::spoils::Spoils;
+use std::io;
 
 // More pages than these are counted and not shown.
 const MOST_SHOWN: usize = 16;
 
-#[derive(Drop)]
+#[derive(Clone, Copy, Default)]
 pub(crate) struct Tally {
-    pub(crate) carried_out: usize,
-    pub(crate) declined: usize,
+    carried_out: usize,
+    declined: usize,
 }
 
 impl Tally {
-    pub(crate) fn new() -> Tally {
-        Tally {
-            carried_out: 0,
-            declined: 0,
-        }
-    }
-
-    pub(crate) fn count(&mut self, answer: &Answer) {
+    // Counts a command, by its answer where it has one.
+    pub(crate) fn count(&mut self, answer: Option<&Answer>) {
         self.carried_out = self.carried_out.saturating_add(1);
-        if answer.is_declined() {
+        if answer.is_some_and(Answer::is_declined) {
             self.declined = self.declined.saturating_add(1);
         }
     }
 }
 
 pub(crate) fn print_summary(
-    rt: &HostRuntime,
+    rt: &(impl Print + AllocGlobal),
     session: &mut Session,
-    tally: &Tally,
+    tally: Tally,
 ) -> Result<(), Failure> {
     let pages = session.pages(rt.alloc())?;
-    match session.kind {
-        Kind::Absent => println!(rt; "No store was given.")?,
-        Kind::Flat => print_pages(rt, "The store is flat", pages.as_slice())?,
-        Kind::Log => print_pages(rt, "The store is a log", pages.as_slice())?,
+    match session.memory.as_ref().map(|memory| memory.kind) {
+        None => println!(rt; "No store was given.")?,
+        Some(Kind::Flat) => print_pages(rt, "The store is flat", pages.as_slice())?,
+        Some(Kind::Log) => print_pages(rt, "The store is a log", pages.as_slice())?,
     }
-    let carried_out = tally.carried_out;
-    let declined = tally.declined;
+    let Tally {
+        carried_out,
+        declined,
+    } = tally;
     println!(rt;
         "Commands carried out: {carried_out}; refused or answered with a fault: {declined}."
     )?;
@@ -52,13 +51,17 @@ pub(crate) fn print_summary(
 }
 
 // What the transactions came to, beside the serial book.
-fn print_engine(rt: &HostRuntime, session: &mut Session, pages: &[u32]) -> Result<(), Failure> {
+fn print_engine(
+    rt: &(impl Print + AllocGlobal),
+    session: &mut Session,
+    pages: &[u32],
+) -> Result<(), Failure> {
     session.begin_book(rt.alloc())?;
     let committed = session.committed;
     println!(rt; "Transactions committed: {committed}.")?;
-    print_spoils(rt, session)?;
-    if session.book.begun {
-        print_book(rt, session, pages)?;
+    print_spoils(rt, session.spoils)?;
+    if let Some(begun) = session.book.begun() {
+        print_book(rt, session, begun, pages)?;
     }
     if session.book.unclaimed {
         println!(rt;
@@ -68,31 +71,40 @@ fn print_engine(rt: &HostRuntime, session: &mut Session, pages: &[u32]) -> Resul
     Ok(())
 }
 
-fn print_spoils(rt: &HostRuntime, session: &Session) -> Result<(), Failure> {
-    let took_over = session.spoils.took_over;
-    let started_over = session.spoils.started_over;
+fn print_spoils(rt: &impl Print, spoils: Spoils) -> io::Result<()> {
+    let Spoils {
+        took_over,
+        started_over,
+    } = spoils;
     println!(rt;
         "After a conflict a shadow took over: {took_over}; a transaction started over: {started_over}."
-    )?;
-    Ok(())
+    )
 }
 
-fn print_book(rt: &HostRuntime, session: &Session, pages: &[u32]) -> Result<(), Failure> {
-    let book = &session.book;
-    print_pages(rt, "The serial book", book.pages.as_slice())?;
-    if book.agrees && same_words(book.pages.as_slice(), pages) {
+fn print_book(
+    rt: &(impl Print + AllocGlobal),
+    session: &Session,
+    begun: &Begun,
+    pages: &[u32],
+) -> Result<(), Failure> {
+    print_pages(rt, "The serial book", begun.pages.as_slice())?;
+    if session.book.agrees && begun.pages.as_slice() == pages {
         println!(rt; "Pages and answers are equal to the serial book's.")?;
     } else {
         println!(rt; "Pages or answers differ from the serial book's.")?;
     }
-    if book.whole {
-        print_replay(rt, session)?;
+    if let Some(first) = &begun.first {
+        print_replay(rt, session, first)?;
     }
     Ok(())
 }
 
-fn print_replay(rt: &HostRuntime, session: &Session) -> Result<(), Failure> {
-    if session.replays(rt.alloc())? {
+fn print_replay(
+    rt: &(impl Print + AllocGlobal),
+    session: &Session,
+    first: &Memory,
+) -> Result<(), Failure> {
+    if session.replays(rt.alloc(), first)? {
         println!(rt;
             "The calls since the book began, made again on a fresh engine, left the same pages and answers."
         )?;
@@ -104,17 +116,18 @@ fn print_replay(rt: &HostRuntime, session: &Session) -> Result<(), Failure> {
     Ok(())
 }
 
-fn print_pages(rt: &HostRuntime, heading: &str, pages: &[u32]) -> Result<(), Failure> {
+fn print_pages(rt: &impl Print, heading: &str, pages: &[u32]) -> io::Result<()> {
     let size = pages.len();
     print!(rt; "{heading}, of size {size}")?;
-    for (index, word) in pages.iter().take(MOST_SHOWN).enumerate() {
-        let before = if index == 0 { ", with pages" } else { "" };
-        print!(rt; "{before} {word}")?;
+    if !pages.is_empty() {
+        print!(rt; ", with pages")?;
+    }
+    for word in pages.iter().take(MOST_SHOWN) {
+        print!(rt; " {word}")?;
     }
     if size > MOST_SHOWN {
         let more = size - MOST_SHOWN;
         print!(rt; " and {more} more")?;
     }
-    println!(rt; ".")?;
-    Ok(())
+    println!(rt; ".")
 }

@@ -1,10 +1,11 @@
 // Numbers and bytes as a scenario writes them.
-ghost use Rattle.std.specs.Prelude.{◌≡◌, ◌<◌, [], ◌∷◌, ◌++◌, map, IfOk, Some};
-ghost use Rattle.std.specs.Option.{option_to_list};
+ghost use Rattle.std.specs.Prelude.{◌≡◌, ℕ, ◌<◌, List, [], ◌∷◌, ◌++◌, map, IfOk, OnOk, Some};
+ghost use Rattle.std.specs.Option.{option_to_list, unwrap_or};
 ghost use Rattle.gorsepick.specs.Digits.{digit_value, halves, Half, Worth, joined};
 
 use crate::failure::Mistake;
 use std::alloc::Global;
+use std::marker::Model;
 
 // Decimal digits alone: `parse` takes a sign too.
 pub(crate) fn parse_number(heap: Global, word: &str) -> Result<u32, Mistake> {
@@ -15,11 +16,10 @@ pub(crate) fn parse_number(heap: Global, word: &str) -> Result<u32, Mistake> {
 }
 
 pub(crate) fn parse_numbers(heap: Global, words: &[&str]) -> Result<Vec<u32>, Mistake> {
-    let mut numbers = Vec::new(heap);
-    for word in words {
-        numbers.push(parse_number(heap, word)?)?;
-    }
-    Ok(numbers)
+    words
+        .iter()
+        .map(|word| parse_number(heap, word))
+        .try_collect(heap)
 }
 
 // What a hexadecimal digit is worth.
@@ -27,60 +27,79 @@ fn digit_value(digit: u8) -> Option<u8>
     ensures value { result ≡ digit_value digit }
     ensures half { Half result }
 {
-    match digit {
-        b'0'..=b'9' => Some(digit - b'0'),
-        b'a'..=b'f' => Some(digit - b'a' + 10),
-        b'A'..=b'F' => Some(digit - b'A' + 10),
-        _ => None,
-    }
+    char::from(digit).to_digit(16).map(|value| value as u8)
 }
 
-// Adds one more half byte. `high` is the one that waits for its second, and so is the answer.
-fn push_half(bytes: &mut Vec<u8>, high: Option<u8>, half: u8) -> Result<Option<u8>, Mistake>
-    requires high { Half high }
-    requires half { half < 16 }
-    ensures { IfOk result (λ rest. Half rest × (halves bytes.new.items ++ option_to_list rest ≡ (halves bytes.old.items ++ option_to_list high) ++ half ∷ [])) }
-{
-    match high {
-        None => Ok(Some(half)),
-        Some(first) => {
-            bytes.push(first * 16 + half)?;
-            Ok(None)
+// Digits read so far: whole bytes, and the half byte that waits for its second. The kit's `hex` decodes one text, where
+// here a byte may lie in two words, and a mistake names its word.
+#[derive(Drop)]
+struct Digits {
+    bytes: Vec<u8>,
+    high: Option<u8>,
+}
+
+// Seen as the values of the digits.
+impl Model for Digits {
+    ghost Value = { List ℕ };
+
+    ghost view = { λ d. halves d.bytes.items ++ option_to_list d.high };
+
+    ghost invariant = { λ d. unwrap_or d.high 0 < 16 };
+}
+
+impl Digits {
+    fn new(heap: Global) -> Digits
+        ensures { result ≡ [] }
+    {
+        Digits {
+            bytes: Vec::new(heap),
+            high: None,
+        }
+    }
+
+    // Adds one more half byte.
+    fn push_half(&mut self, half: u8) -> Result<(), Mistake>
+        requires { half < 16 }
+        ensures { OnOk result (self.new ≡ self.old ++ half ∷ []) }
+    {
+        match self.high.take() {
+            None => self.high = Some(half),
+            Some(first) => self.bytes.push(first * 16 + half)?,
+        }
+        Ok(())
+    }
+
+    // Adds the digits of a word. A `for` with `?`, since each may fail and all add to the same bytes.
+    fn push_digits(&mut self, heap: Global, word: &str) -> Result<(), Mistake>
+        ensures { OnOk result (map Some self.new ≡ map Some self.old ++ map digit_value word.now) }
+    {
+        for digit in word.as_bytes() {
+            match digit_value(*digit) {
+                Some(half) => self.push_half(half)?,
+                None => return Err(Mistake::NoDigits(String::from_str(heap, word)?)),
+            }
+        }
+        Ok(())
+    }
+
+    // The bytes, where no half byte is left over.
+    fn finish(self) -> Result<Vec<u8>, Mistake>
+        ensures { IfOk result (λ v. halves v.items ≡ self) }
+    {
+        match self.high {
+            None => Ok(self.bytes),
+            Some(_) => Err(Mistake::OddDigits),
         }
     }
 }
 
-// Adds the digits of a word. A byte may begin in one word and end in the next: `high` is the half byte left over by the
-// words before, and the answer the one left over by this word.
-fn push_digits(
-    heap: Global,
-    bytes: &mut Vec<u8>,
-    mut high: Option<u8>,
-    word: &str,
-) -> Result<Option<u8>, Mistake>
-    requires { Half high }
-    ensures { IfOk result (λ rest. Half rest × (map Some (halves bytes.new.items ++ option_to_list rest) ≡ map Some (halves bytes.old.items ++ option_to_list high) ++ map digit_value word.now)) }
-{
-    for digit in word.as_bytes() {
-        match digit_value(*digit) {
-            Some(half) => high = push_half(bytes, high, half)?,
-            None => return Err(Mistake::NoDigits(String::from_str(heap, word)?)),
-        }
-    }
-    Ok(high)
-}
-
-// The bytes of hexadecimal digits, two a byte, whatever words they are cut into.
+// The bytes of hexadecimal digits, two a byte, whatever words they are cut into. A `for`, as in `push_digits`.
 pub(crate) fn parse_bytes(heap: Global, words: &[&str]) -> Result<Vec<u8>, Mistake>
     ensures { IfOk result (λ v. Worth (joined words.now) (halves v.items)) }
 {
-    let mut bytes = Vec::new(heap);
-    let mut high = None;
+    let mut digits = Digits::new(heap);
     for word in words {
-        high = push_digits(heap, &mut bytes, high, word)?;
+        digits.push_digits(heap, word)?;
     }
-    match high {
-        None => Ok(bytes),
-        Some(_) => Err(Mistake::OddDigits),
-    }
+    digits.finish()
 }

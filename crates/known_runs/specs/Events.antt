@@ -1,6 +1,6 @@
 -- Short names for what known runs are made of. Assumes nothing.
 use Rattle.std.specs.Prelude.{ℕ, zero, suc, List, [], ◌∷◌, Some, None}
-use Rattle.serial.specs.declared.fault.Answer.TheVariants.{Allowed, Begun, Took, Committed, Aborted}
+use Rattle.serial.specs.declared.fault.Accepted.TheVariants.{Allowed, Begun, Took, Committed, Aborted}
 use Rattle.serial.specs.declared.fault.Turned.TheVariants.{Moved, Ended, Waiting}
 use Rattle.serial.specs.declared.fault.Standing.{Standing}
 use Rattle.serial.specs.Rules.{Call, set_allowance, begin, turn, commit, abort}

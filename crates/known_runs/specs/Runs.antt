@@ -7,26 +7,21 @@ use Rattle.pages.specs.Log.{log_pages, log_put}
 use Rattle.script.specs.Script.{decoded, script_cause, script_returned}
 use Rattle.script.specs.declared.Register.TheVariants.{R0}
 use Rattle.script.specs.declared.ScriptFault.{ScriptFault}
-use Rattle.serial.specs.declared.fault.Answer.{Answer}
-use Rattle.serial.specs.declared.fault.Answer.TheVariants.{Allowed, Begun, Took, Committed, Aborted, Declined}
+use Rattle.serial.specs.declared.fault.Accepted.{Accepted}
 use Rattle.serial.specs.declared.fault.Standing.{Standing}
-use Rattle.serial.specs.Faults.{call_cause, call_returned}
+use Rattle.serial.specs.Faults.{Answer, call_cause, call_returned}
 use Rattle.serial.specs.Machine.{Meaning, Steps, Stand, holds}
 use Rattle.serial.specs.Alone.{Reached, there, fault, past_end, whole_run, put_all}
 use Rattle.serial.specs.Rules.{Engine, State, fresh, script_of, shadow, standing, Call, does}
 
 -- what a call answers; a refusal by its number and its values
 pub data Told : Type 0 where
-  says : Answer → Told
+  says : Accepted → Told
   refuses : ℕ → List ℕ → Told
 
 abbrev pub told : Answer → Told
-told Allowed = says Allowed
-told Begun = says Begun
-told (Took how) = says (Took how)
-told (Committed r n) = says (Committed r n)
-told Aborted = says Aborted
-told (Declined f) = refuses (call_cause f) (call_returned f)
+told (Ok how) = says how
+told (Err f) = refuses (call_cause f) (call_returned f)
 
 -- what happens to an engine: a call is made, and answers; a shadow of one slot for another is looked at, and stands at a
 -- step where its next turn finds something, or is not there; the pages are looked at; from here on the host gives a store

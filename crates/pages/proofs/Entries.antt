@@ -1,23 +1,20 @@
 -- Laws of entries that name pages. Assumes nothing.
-use Rattle.std.proofs.Common.{◌≡◌, ℕ, zero, suc, ◌+◌, ◌-◌, ◌<◌, ◌≤◌, true, false, cond, ◌&&◌, ltb, ◌≢◌, ◌⊎◌, List, length, get_or, take, drop, set, sym, refl, ap, ◌∙◌, inl, inr, ⊎_elim, zero-add, arith, get_or-set_other, get_or-set_same}
+use Rattle.std.proofs.Common.{◌≡◌, ℕ, zero, suc, ◌+◌, ◌<◌, ◌≤◌, true, cond, ◌&&◌, ltb, ◌≢◌, ◌⊎◌, List, length, get_or, slice_index, nat_lt, fold, [], ◌∷◌, take_all, add-one, take, drop, set, sym, refl, ap, ◌∙◌, inl, inr, ⊎_elim, zero-add, arith, get_or-set_other, get_or-set_same}
 use lib.Seq.{take-set-lt, drop-set-add}
-use Rattle.std.proofs.lemmas.Bool.{and_parts, and_from, ltb-true, lt-ltb, le-ltb, eq-eqb, ne_eqb, cases_eq}
+use Rattle.std.proofs.lemmas.List.{take_more}
+use Rattle.std.proofs.lemmas.List.Sums.{fold-append}
+use Rattle.std.proofs.lemmas.Bool.{and_parts, and_from, ltb-true, lt-ltb, eq-eqb, ne_eqb, cases_eq}
 use Rattle.pages.specs.Entries.{carried, latest, all_below, length-carried}
-
--- a loop that counts down from n reads at n - 1
-back : (n : ℕ) → 0 < n → n ≡ suc (n - 1)
-back n h = omega arith
 
 -- the last of n + 1, or one of the first n
 last_or : (i n : ℕ) → i < suc n → (i ≡ n) ⊎ (i < n)
 last_or i n l = ⊎_elim (λ e. inl e) (λ e. inr (omega arith)) (cases_eq i n)
 
 module _ (page : ℕ → ℕ) (limit : ℕ) where
-  pub all_below_passed : (n : ℕ) → 0 < n → page (n - 1) < limit → all_below page limit n ≡ all_below page limit (n - 1)
-  all_below_passed n h l = ap (all_below page limit) (back n h) ∙ ap (λ b. b && all_below page limit (n - 1)) (lt-ltb _ _ l)
-
-  pub all_below_failed : (n : ℕ) → 0 < n → limit ≤ page (n - 1) → all_below page limit n ≡ false
-  all_below_failed n h l = ap (all_below page limit) (back n h) ∙ ap (λ b. b && all_below page limit (n - 1)) (le-ltb _ _ l)
+  -- only the first n count
+  pub all_below-same : (other : ℕ → ℕ) (n : ℕ) → ((i : ℕ) → i < n → page i ≡ other i) → all_below page limit n ≡ all_below other limit n
+  all_below-same other zero same = refl
+  all_below-same other (suc n) same = rw (same n (omega arith), all_below-same other n (λ i l. same i (omega arith)))
 
   pub all_below_at : (n : ℕ) → all_below page limit n ≡ true → (i : ℕ) → i < n → page i < limit
   all_below_at zero h i l = absurd (omega arith)
@@ -31,6 +28,17 @@ module _ (page : ℕ → ℕ) (limit : ℕ) where
   all_below_from zero h = refl
   all_below_from (suc n) h =
       and_from (ltb (page n) limit) (all_below page limit n) (lt-ltb _ _ (h n (omega arith))) (all_below_from n (λ i l. h i (omega arith)))
+
+-- the same of a list, by a fold over it
+pub fold-all_below : (xs : List ℕ) (limit : ℕ) → fold (λ below n. nat_lt n limit && below) true xs ≡ all_below (slice_index xs) limit (length xs)
+fold-all_below xs limit = ap (fold _ true) (sym (take_all (length xs) xs (omega arith))) ∙ front (length xs) (omega arith)
+  where
+    front : (n : ℕ) → n ≤ length xs → fold (λ below n. nat_lt n limit && below) true (take n xs) ≡ all_below (slice_index xs) limit n
+    front zero l = refl
+    front (suc n) l =
+        ap (fold _ true) (ap (λ k. take k xs) (sym (add-one n)) ∙ take_more xs n 0 (omega arith))
+        ∙ fold-append _ true (take n xs) (get_or xs n 0 ∷ [])
+        ∙ ap (λ b. nat_lt (get_or xs n 0) limit && b) (front n (omega arith))
 
 module _ (page word : ℕ → ℕ) where
   -- what no entry names stays
@@ -71,12 +79,22 @@ module _ (page word : ℕ → ℕ) where
       ∙ ap (λ xs. set xs (page n) (word n)) before
       ∙ ap (λ k. set (carried page word 0 (take size (drop at ws)) n) k (word n)) (sym (zero-add (page n)))
 
-  -- one turn of a search for the last entry, from the end
-  pub latest_found : (p w n : ℕ) → 0 < n → page (n - 1) ≡ p → latest page word p w n ≡ word (n - 1)
-  latest_found p w n h e = ap (latest page word p w) (back n h) ∙ ap (λ b. cond b (word (n - 1)) (latest page word p w (n - 1))) (eq-eqb _ _ e)
+  -- the word of a page that no entry names
+  pub latest_none : (p w n : ℕ) → ((k : ℕ) → k < n → page k ≢ p) → latest page word p w n ≡ w
+  latest_none p w zero apart = refl
+  latest_none p w (suc n) apart =
+      ap (λ b. cond b (word n) (latest page word p w n)) (ne_eqb _ _ (apart n (omega arith))) ∙ latest_none p w n (λ k l. apart k (omega arith))
 
-  pub latest_passed : (p w n : ℕ) → 0 < n → (page (n - 1) ≡ p → ⊥) → latest page word p w n ≡ latest page word p w (n - 1)
-  latest_passed p w n h e = ap (latest page word p w) (back n h) ∙ ap (λ b. cond b (word (n - 1)) (latest page word p w (n - 1))) (ne_eqb _ _ e)
+  -- the word of a page that entry i names, and none after it
+  pub latest_at : (p w n i : ℕ) → i < n → page i ≡ p → ((k : ℕ) → i < k → k < n → page k ≢ p) → latest page word p w n ≡ word i
+  latest_at p w zero i l here after = absurd (omega arith)
+  latest_at p w (suc n) i l here after =
+      ⊎_elim
+      (λ (e : i ≡ n). rw (← e) (ap (λ b. cond b (word i) (latest page word p w i)) (eq-eqb _ _ here)))
+      (λ (m : i < n).
+      ap (λ b. cond b (word n) (latest page word p w n)) (ne_eqb _ _ (after n m (omega arith)))
+      ∙ latest_at p w n i m here (λ k a b. after k a (omega arith)))
+      (last_or i n l)
 
 -- only the entries carried count
 pub carried_same : (page word page' word' : ℕ → ℕ) (at : ℕ) (into : List ℕ) (n : ℕ) → ((i : ℕ) → i < n → page i ≡ page' i) → ((i : ℕ) → i < n → word i ≡ word' i) → carried page word at into n ≡ carried page' word' at into n

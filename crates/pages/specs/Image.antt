@@ -2,10 +2,10 @@
 --
 -- The bytes are: N, the number of pages; M, how many are named; M page numbers; M words. Each number has four bytes,
 -- most significant first.
-use Rattle.std.specs.Prelude.{◌≡◌, ℕ, zero, suc, ◌+◌, ◌-◌, ◌*◌, ◌≤◌, Bool, cond, ◌&&◌, ◌||◌, List, [], ◌∷◌, length, replicate, Some, None, Option, ◌==◌, nat_le, nat_lt}
+use Rattle.std.specs.Prelude.{◌≡◌, ℕ, zero, suc, ◌+◌, ◌-◌, ◌*◌, ◌≤◌, Bool, true, false, cond, ◌&&◌, ◌||◌, List, [], ◌∷◌, length, replicate, Some, None, Option, ◌==◌, nat_lt, refl}
 use Rattle.std.proofs.Common.{◌∙◌, arith}
 use Rattle.std.proofs.lemmas.List.{length-replicate}
-use Rattle.std.proofs.lemmas.Bool.{cond_both, and_parts, leb-true}
+use Rattle.std.proofs.lemmas.Bool.{ltb-false}
 use Rattle.basics.specs.Bytes.{big_endian}
 use Rattle.pages.specs.Entries.{carried, length-carried}
 use Rattle.pages.specs.declared.fault.ImageFault.{ImageFault}
@@ -70,20 +70,21 @@ image_returned (BadNumber offset) = offset ∷ []
 abbrev pub image_pages : List ℕ → List ℕ
 image_pages bs = carried (named_page bs) (named_word bs) 0 (replicate (image_size bs) 0) (image_named bs)
 
--- all that a read relies on: N is at most 4,096 and there are 8 + 8M bytes
-abbrev pub laid_out : List ℕ → Bool
-laid_out bs = nat_le (image_size bs) 4096 && length bs == 8 + 8 * image_named bs
-
--- what a reader over these bytes shows. Where nothing is wrong with an image, these are its pages
-abbrev pub shown_pages : List ℕ → List ℕ
-shown_pages bs = cond (laid_out bs) (image_pages bs) []
-
 pub length-image_pages : (bs : List ℕ) → length (image_pages bs) ≡ image_size bs
 length-image_pages bs =
     length-carried (named_page bs) (named_word bs) 0 (replicate (image_size bs) 0) (image_named bs) ∙ length-replicate (image_size bs) 0
 
-pub shown_few : (bs : List ℕ) → length (shown_pages bs) ≤ 4096
-shown_few bs =
-    cond_both (laid_out bs) (image_pages bs) [] (λ pages. length pages ≤ 4096)
-    (λ e. omega (arith, length-image_pages bs, leb-true (image_size bs) 4096 (and_parts _ _ e).0))
-    (λ e. omega arith)
+-- a check that found nothing
+pub passed : (bad : Bool) (fault : ImageFault) (others : Option ImageFault) → cond bad (Some fault) others ≡ None → (bad ≡ false) × (others ≡ None)
+passed bad fault others h =
+    elim bad as (λ b. cond b (Some fault) others ≡ None → (b ≡ false) × (others ≡ None)) [ true ↦ λ e. absurd (cc) | false ↦ λ e. (refl, e) ] h
+
+-- N is at most 4,096 where nothing is wrong
+pub sound_size : (bs : List ℕ) → image_fault bs ≡ None → image_size bs ≤ 4096
+sound_size bs h =
+    let long = passed (nat_lt (length bs) 8) _ _ h in
+    let few = passed (nat_lt 4096 (image_size bs)) _ _ long.1 in
+    ltb-false 4096 (image_size bs) few.0
+
+pub image_few : (bs : List ℕ) → image_fault bs ≡ None → length (image_pages bs) ≤ 4096
+image_few bs h = omega (arith, length-image_pages bs, sound_size bs h)

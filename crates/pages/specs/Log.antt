@@ -2,10 +2,11 @@
 --
 -- The words are: N, the number of pages; C, how many entries there is room for; U, how many are used; N base words;
 -- C page numbers; C words. A word that is not there counts as 0 here, and such a layout is not sound.
-use Rattle.std.specs.Prelude.{◌≡◌, ℕ, ◌+◌, ◌*◌, ◌<◌, ◌≤◌, Bool, true, cond, ◌&&◌, List, [], length, take, drop, Ok, Result, ◌==◌, nat_le, nat_lt, slice_index, slice_set}
+use Rattle.std.specs.Prelude.{◌≡◌, ℕ, ◌+◌, ◌*◌, ◌<◌, ◌≤◌, Bool, true, cond, ◌&&◌, List, [], length, take, drop, Some, None, Option, Ok, Result, ◌==◌, nat_le, nat_lt, slice_index, slice_set}
 use Rattle.std.proofs.Common.{arith, length-take}
 use Rattle.std.proofs.lemmas.Bool.{cond_both, and_parts, leb-true}
 use Rattle.pages.specs.declared.StoreFault.{StoreFault}
+use Rattle.pages.specs.declared.log.Layout.{Layout}
 use Rattle.pages.specs.Entries.{carried, latest, all_below, length-carried}
 
 abbrev pub size_word : List ℕ → ℕ
@@ -30,6 +31,10 @@ abbrev pub sound : List ℕ → Bool
 sound ws =
     nat_le (size_word ws) 4096 && (nat_le 1 (capacity ws) && (nat_le (capacity ws) 4096 && (nat_le (used ws) (capacity ws)
     && (length ws == 3 + size_word ws + 2 * capacity ws && all_below (entry_page ws) (size_word ws) (used ws)))))
+
+-- what the first two words of a sound layout say; none over other words
+abbrev pub layout_of : List ℕ → Option Layout
+layout_of ws = cond (sound ws) (Some (record { size = size_word ws; room = capacity ws })) None
 
 abbrev pub base : List ℕ → List ℕ
 base ws = take (size_word ws) (drop 3 ws)

@@ -60,16 +60,13 @@ impl Refusal for ImageFault {
     }
 
     fn value(&self, index: usize) -> Option<usize> {
-        if index > 0 {
-            return None;
-        }
-        match self {
-            ImageFault::Truncated(length) => Some(*length),
-            ImageFault::TooManyPages => Some(0),
-            ImageFault::TooManyNamed => Some(4),
-            ImageFault::WrongLength(length) => Some(*length),
-            ImageFault::BadNumber(offset) => Some(*offset),
-        }
+        let told = match *self {
+            ImageFault::Truncated(length) | ImageFault::WrongLength(length) => length,
+            ImageFault::TooManyPages => 0,
+            ImageFault::TooManyNamed => 4,
+            ImageFault::BadNumber(offset) => offset,
+        };
+        [told].get(index).copied()
     }
 }
 
@@ -84,11 +81,7 @@ impl Refusal for LoadFault {
 
     fn value(&self, index: usize) -> Option<usize> {
         let LoadFault::Sizes { reader, store } = *self;
-        match index {
-            0 => Some(reader as usize),
-            1 => Some(store as usize),
-            _ => None,
-        }
+        [reader as usize, store as usize].get(index).copied()
     }
 }
 

@@ -2,9 +2,7 @@
 ghost use Rattle.std.specs.Prelude.{◌≡◌, ℕ, ◌≤◌, length};
 ghost use Rattle.pages.specs.Flat.{flat_pages, flat_few, flat_wrote};
 
-use super::{Reader, Store, StoreFault};
-
-const MOST: usize = 4096;
+use crate::{MOST, Reader, Store, StoreFault};
 
 #[derive(Drop)]
 pub struct Flat<'a> {
@@ -18,6 +16,16 @@ impl<'a> Flat<'a> {
     {
         Flat { words }
     }
+
+    // The words, or none where there are too many.
+    fn pages(&self) -> &[u32]
+        ensures { result.now ≡ flat_pages self.now.words.now }
+    {
+        if self.words.len() > MOST as usize {
+            return &[];
+        }
+        &self.words[..]
+    }
 }
 
 impl<'a> Reader for Flat<'a> {
@@ -26,18 +34,12 @@ impl<'a> Reader for Flat<'a> {
     ghost few = { λ s. flat_few s.words.now };
 
     fn size(&self) -> u32 {
-        let n = self.words.len();
-        if n > MOST { 0 } else { n as u32 }
+        self.pages().len() as u32
     }
 
     fn read(&self, page: u32) -> Result<u32, StoreFault> {
-        let at = page as usize;
-        let n = self.words.len();
-        if n <= MOST && at < n {
-            Ok(self.words[at])
-        } else {
-            Err(StoreFault { page })
-        }
+        let word = self.pages().get(page as usize);
+        word.copied().ok_or(StoreFault { page })
     }
 }
 
@@ -45,13 +47,10 @@ impl<'a> Store for Flat<'a> {
     ghost wrote = { flat_wrote };
 
     fn put(&mut self, page: u32, word: u32) -> Result<(), StoreFault> {
-        let at = page as usize;
-        let n = self.words.len();
-        if n <= MOST && at < n {
-            self.words[at] = word;
-            Ok(())
-        } else {
-            Err(StoreFault { page })
+        if page >= self.size() {
+            return Err(StoreFault { page });
         }
+        self.words[page as usize] = word;
+        Ok(())
     }
 }

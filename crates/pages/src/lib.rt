@@ -16,6 +16,9 @@ pub use image::Image;
 pub use load::{load_image, load_pages};
 pub use log::Log;
 
+// The most pages that a reader has.
+const MOST: u32 = 4096;
+
 // No page has this number: the reader's or store's size is not above it.
 #[derive(Clone, Copy, PartialEq, Eq, Debug)]
 pub struct StoreFault {

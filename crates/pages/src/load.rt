@@ -1,20 +1,8 @@
 // Loading: all pages of a reader copied into a store of the same size.
-ghost use Rattle.std.specs.Prelude.{◌≡◌, ◌<◌, length, slice_index, slice_set};
+ghost use Rattle.std.specs.Prelude.{length};
 ghost use Rattle.pages.specs.Load.{Loaded, ImageLoaded};
 
 use crate::{Image, ImageLoadFault, LoadFault, Reader, Store};
-
-// Copies one page that both have.
-fn copy_page<R: Reader, S: Store>(from: &R, into: &mut S, page: u32)
-    requires from { page < length (R.Reader.pages from.now) }
-    requires into { page < length (S.Reader.pages into.old) }
-    ensures pages { S.Reader.pages into.new ≡ slice_set (S.Reader.pages into.old) page (slice_index (R.Reader.pages from.now) page) }
-    ensures wrote { S.Store.wrote into.old page (slice_index (R.Reader.pages from.now) page) into.new }
-{
-    if let Ok(word) = from.read(page) {
-        let _ = into.put(page, word);
-    }
-}
 
 // Copies all pages of a reader into a store of the same size, in rising order.
 pub fn load_pages<R: Reader, S: Store>(from: &R, into: &mut S) -> Result<(), LoadFault>
@@ -26,7 +14,8 @@ pub fn load_pages<R: Reader, S: Store>(from: &R, into: &mut S) -> Result<(), Loa
         return Err(LoadFault::Sizes { reader, store });
     }
     for page in 0..reader {
-        copy_page(from, into, page);
+        let word = from.read(page).unwrap();
+        into.put(page, word).unwrap();
     }
     Ok(())
 }

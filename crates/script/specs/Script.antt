@@ -31,6 +31,12 @@ register (suc zero) = R1
 register (suc (suc zero)) = R2
 register (suc (suc (suc n))) = R3
 
+abbrev pub index : Register → ℕ
+index R0 = 0
+index R1 = 1
+index R2 = 2
+index R3 = 3
+
 abbrev pub steps_told : List ℕ → ℕ
 steps_told bs = slice_index bs 0
 

@@ -2,7 +2,7 @@
 #![tactic(auto)]
 
 ghost use Rattle.std.specs.Prelude.{◌≡◌, ℕ, List};
-ghost use Rattle.script.specs.Script.{script_cause, script_returned};
+ghost use Rattle.script.specs.Script.{index, script_cause, script_returned};
 
 use arithmetic::Operation;
 use basics::{Refusal, Trail};
@@ -18,6 +18,15 @@ pub enum Register {
     R1,
     R2,
     R3,
+}
+
+// A register's place among the four.
+impl From<Register> for usize {
+    ghost from_gives = { λ register n. n ≡ index register };
+
+    fn from(register: Register) -> usize {
+        register as usize
+    }
 }
 
 // What a step does, with its registers. The operand beside it is a page number, a word or a count of steps.
@@ -75,12 +84,9 @@ impl Refusal for ScriptFault {
     }
 
     fn value(&self, index: usize) -> Option<usize> {
-        if index > 0 {
-            return None;
-        }
         match self {
-            ScriptFault::Unfit(length) => Some(*length),
-            ScriptFault::Undefined(step) => Some(*step),
+            ScriptFault::Unfit(length) => [*length].get(index).copied(),
+            ScriptFault::Undefined(step) => [*step].get(index).copied(),
         }
     }
 }

@@ -8,8 +8,8 @@ use Rattle.script.specs.declared.ScriptFault.{ScriptFault}
 use Rattle.serial.specs.declared.fault.Turned.TheVariants.{Waiting}
 use Rattle.serial.specs.declared.fault.Standing.{Standing}
 use Rattle.serial.specs.declared.fault.Standing.TheVariants.{AtEnd, Halted, Ready}
-use Rattle.serial.specs.declared.fault.Answer.{Answer}
-use Rattle.serial.specs.declared.fault.Answer.TheVariants.{Allowed, Begun, Took, Committed, Aborted, Declined}
+use Rattle.serial.specs.declared.fault.Accepted.TheVariants.{Allowed, Begun, Took, Committed, Aborted}
+use Rattle.serial.specs.Faults.{Answer}
 use Rattle.serial.specs.Machine.{Meaning, Steps, Stand, start, Taken, moved, off_pages, store_read, has_read_any}
 use Rattle.serial.specs.Alone.{there, next, stand_at, whole_run, on_list, before_read_of, put_all}
 use Rattle.serial.specs.Laws.{Leads}
@@ -104,12 +104,12 @@ module _ (ar : Meaning) where
   keeps (abort t) s notes g = range_keeps (abort t) s notes t _ (λ l. abort_open-keeps t s notes (script_of s.engine t))
 
   among_more : (a : Answer) (rest : List Answer) → noted_answer a ++ commits_among rest ≡ commits_among (a ∷ rest)
-  among_more (Committed r n) rest = refl
-  among_more (Declined f) rest = refl
-  among_more Allowed rest = refl
-  among_more Begun rest = refl
-  among_more (Took how) rest = refl
-  among_more Aborted rest = refl
+  among_more (Ok (Committed r n)) rest = refl
+  among_more (Err f) rest = refl
+  among_more (Ok Allowed) rest = refl
+  among_more (Ok Begun) rest = refl
+  among_more (Ok (Took how)) rest = refl
+  among_more (Ok Aborted) rest = refl
 
   book-kept : (cs : List Call) (s : State) (notes : List (ℕ × ℕ)) → Good ar s → book_after ar cs (answers ar cs s) (Some (Agrees s notes)) ≡ Some (Agrees (after ar cs s) (notes ++ commits_among (answers ar cs s)))
   book-kept [] s notes g = ap (λ n. Some (Agrees s n)) (sym (append-nil notes))
@@ -120,7 +120,7 @@ module _ (ar : Meaning) where
       ∙ ap (λ n. Some (Agrees (after ar cs d.0) n)) (append_assoc notes (noted_answer d.1) (commits_among (answers ar cs d.0)) ∙ ap (λ n. notes ++ n) (among_more d.1 (answers ar cs d.0)))
 
   -- a shadow that a turn finds waiting is waiting
-  waiting_waits : (s : State) (v t : ℕ) (sc : Steps) (r : Stand) → v < 8 → t < 8 → t ≢ v → script_of s.engine v ≡ Some sc → shadow s.engine v t ≡ Some r → (does ar (turn v t) s).1 ≡ Took Waiting → waits s.engine v t sc r ≡ true
+  waiting_waits : (s : State) (v t : ℕ) (sc : Steps) (r : Stand) → v < 8 → t < 8 → t ≢ v → script_of s.engine v ≡ Some sc → shadow s.engine v t ≡ Some r → (does ar (turn v t) s).1 ≡ Ok (Took Waiting) → waits s.engine v t sc r ≡ true
   waiting_waits s v t sc r v_in t_in ne script here_now h =
       let e = s.engine in
       let to_shadow : (does ar (turn v t) s).1 ≡ (turn_standing ar s v t sc r (standing e v t sc r)).1 =
@@ -132,14 +132,14 @@ module _ (ar : Meaning) where
       (λ (w : waits e v t sc r ≡ true). w)
       (λ (w : waits e v t sc r ≡ false).
       let stands : standing e v t sc r ≡ Ready = is_standing ∙ ap (λ b. cond b Halted Ready) w in
-      let answer : (turn_step s v t sc r (next ar sc s.pages r)).1 ≡ Took Waiting = ap (λ x. (turn_standing ar s v t sc r x).1) (sym stands) ∙ sym to_shadow ∙ h in
+      let answer : (turn_step s v t sc r (next ar sc s.pages r)).1 ≡ Ok (Took Waiting) = ap (λ x. (turn_standing ar s v t sc r x).1) (sym stands) ∙ sym to_shadow ∙ h in
       absurd (never s v t sc r (next ar sc s.pages r) answer))
       (cases_Bool (waits e v t sc r))
     where
       below : (n : ℕ) → n < 8 → leb n 7 ≡ true
       below n l = le-leb n 7 (omega arith)
 
-      never : (s : State) (v t : ℕ) (sc : Steps) (r : Stand) (o : Option Taken) → (turn_step s v t sc r o).1 ≡ Took Waiting → ⊥
+      never : (s : State) (v t : ℕ) (sc : Steps) (r : Stand) (o : Option Taken) → (turn_step s v t sc r o).1 ≡ Ok (Took Waiting) → ⊥
       never s v t sc r None h = let z : ◌≡◌ {A = ℕ} 0 1 = cc in omega arith
       never s v t sc r (Some (off_pages p)) h = let z : ◌≡◌ {A = ℕ} 0 1 = cc in omega arith
       never s v t sc r (Some (moved to)) h = let z : ◌≡◌ {A = ℕ} 0 1 = cc in omega arith
@@ -202,7 +202,7 @@ module _ (ar : Meaning) where
   -- an accepted commit leaves the state that the rules give for the leading shadow's list
   module _ (s : State) (t r n : ℕ) (last : Stand) (lead : shadow s.engine t t ≡ Some last) where
     abbrev pub Leaves : Done → Type 0
-    Leaves d = d.1 ≡ Committed r n → d.0 ≡ record { engine = committed s.engine t last.own; pages = put_all last.own s.pages }
+    Leaves d = d.1 ≡ Ok (Committed r n) → d.0 ≡ record { engine = committed s.engine t last.own; pages = put_all last.own s.pages }
 
     puts-leaves : (o : Option ℕ) → Leaves (commit_puts s t last o)
     puts-leaves (Some p) = λ e. let z : ◌≡◌ {A = ℕ} 0 1 = cc in absurd (omega arith)

@@ -11,15 +11,10 @@ use Rattle.serial.specs.Machine.{Meaning, Steps, Stand, start, Taken, moved, off
 use Rattle.serial.specs.Alone.{next}
 use Rattle.serial.specs.Laws.{Leads, here}
 use Rattle.serial.specs.Rules.{Row, Engine, State, Done, no_shadows, fresh, fresh_engine, script_of, is_open, row, shadow, with_shadow, own_of, lead_writes, count, waits, standing, in_range, first_open, allow_closed, allows, begun, begin_with, begins, lead_moves, turn_step, turn_standing, turn_shadow, turn_open, turns, first_off, commit_puts, commit_open, commits, abort_open, aborts, Call, set_allowance, begin, turn, commit, abort, does, after}
-use Rattle.serial.proofs.Table.{none_is_some, none_is, Sized, row_put, row_put_other, shadow_put, shadow_put_place, shadow_put_row, sized_put, count_add}
+use Rattle.serial.proofs.Table.{none_is_some, none_is, Sized, row_put, row_put_other, shadow_put, shadow_put_place, shadow_put_row, sized_put, count_add, nothing_at}
 use Rattle.serial.proofs.Kept.{no_exempt, RowInv, Inv}
 use Rattle.serial.proofs.Turns.{lead_moves_inv, shadow_moves_inv}
 use Rattle.serial.proofs.Commits.{committed_inv, abort_is}
-
-nothing_at : {X : Type 0} (n u : ℕ) → get_or {A = Option X} (replicate n None) u None ≡ None
-nothing_at zero u = refl
-nothing_at (suc n) zero = refl
-nothing_at (suc n) (suc u) = nothing_at n u
 
 -- a row with no shadow counts none
 pub count_none : (cs : Row) → ((u : ℕ) → get_or cs u None ≡ None) → count cs ≡ 0

@@ -9,7 +9,7 @@ use Rattle.serial.specs.Alone.{put_all}
 use Rattle.serial.specs.Laws.{Leads, here}
 use Rattle.serial.specs.Rules.{Row, Engine, no_shadows, script_of, is_open, row, shadow, own_of, lead_writes, furthest_of, any_shadow, count, cleared, closed, kept, remaining, spoils, renewed, renew, committed}
 use Rattle.serial.proofs.Runs.{reached_later, read_lasts, leads-frame, length-put_all, put_all_other}
-use Rattle.serial.proofs.Table.{none_is_some, some_is, some_or_none, Sized, shadow-within, count_add, count_clear, count-remaining, count_dropped, remaining_at, kept_was, kept-unread, furthest_of_among, furthest_of_most}
+use Rattle.serial.proofs.Table.{none_is_some, some_is, some_or_none, Sized, shadow-within, count_add, count_clear, count-remaining, count_dropped, remaining_at, kept_was, kept-unread, furthest_of_among, furthest_of_most, nothing_at}
 use Rattle.serial.proofs.Conflicts.{read_any_nil, read_any_grows, read_any_shrinks, own_grows}
 use Rattle.serial.proofs.Kept.{no_exempt, RowInv, Inv}
 
@@ -17,11 +17,6 @@ map_at : {X : Type 0} (f : X → X) (d : X) → f d ≡ d → (xs : List X) (i :
 map_at f d h [] i = sym h
 map_at f d h (x ∷ xs) zero = refl
 map_at f d h (x ∷ xs) (suc i) = map_at f d h xs i
-
-nothing_at : (n u : ℕ) → get_or {A = Option Stand} (replicate n None) u None ≡ None
-nothing_at zero u = refl
-nothing_at (suc n) zero = refl
-nothing_at (suc n) (suc u) = nothing_at n u
 
 count_nothing : (n : ℕ) → count (replicate n None) ≡ 0
 count_nothing zero = refl

@@ -1,6 +1,7 @@
 -- Reads against writes: what lists of them have in common, as shadows move. Assumes nothing.
 use Rattle.std.proofs.Common.{◌≡◌, ℕ, Bool, true, false, ◌||◌, eqb, List, [], ◌∷◌, ◌++◌, Some, None, Option, sym, refl, ap, ◌∙◌, ⊎_elim}
 use Rattle.std.specs.List.{slice_get}
+use Rattle.std.proofs.Math.Bool.{or-false}
 use Rattle.std.proofs.lemmas.Bool.{cases_Bool, cases_eq, eq-eqb, ne_eqb, both_ways, or_left, or_right, or_cases, true≢false}
 use Rattle.pages.specs.declared.WriteEntry.{WriteEntry}
 use Rattle.serial.specs.declared.ReadEntry.{ReadEntry}
@@ -22,10 +23,6 @@ pub read_any_nil : (rs : List ReadEntry) → has_read_any rs [] ≡ false
 read_any_nil [] = refl
 read_any_nil (r ∷ rs) = read_any_nil rs
 
-or_false : (b : Bool) → (b || false) ≡ b
-or_false true = refl
-or_false false = refl
-
 shuffled : (a b c d : Bool) → ((a || b) || (c || d)) ≡ ((a || c) || (b || d))
 shuffled true b c d = refl
 shuffled false true true d = refl
@@ -37,9 +34,9 @@ pub read_any_more : (rs : List ReadEntry) (es es' : List WriteEntry) (wr : Optio
 read_any_more [] es es' None h = refl
 read_any_more [] es es' (Some p) h = refl
 read_any_more (r ∷ rs) es es' None h =
-    ap (λ b. b || has_read_any rs es') (h r.page ∙ or_false (has_written es r.page))
-    ∙ ap (λ b. has_written es r.page || b) (read_any_more rs es es' None h ∙ or_false (has_read_any rs es))
-    ∙ sym (or_false (has_written es r.page || has_read_any rs es))
+    ap (λ b. b || has_read_any rs es') (h r.page ∙ or-false (has_written es r.page))
+    ∙ ap (λ b. has_written es r.page || b) (read_any_more rs es es' None h ∙ or-false (has_read_any rs es))
+    ∙ sym (or-false (has_written es r.page || has_read_any rs es))
 read_any_more (r ∷ rs) es es' (Some p) h =
     ap (λ b. b || has_read_any rs es') (h r.page ∙ ap (λ b. has_written es r.page || b) (flip p r.page))
     ∙ ap (λ b. (has_written es r.page || eqb r.page p) || b) (read_any_more rs es es' (Some p) h)
@@ -85,4 +82,4 @@ module _ (ar : Meaning) (script : Steps) (pages : List ℕ) where
 -- the read that a step records, against a list
 pub noted_any : (n : ℕ) (o : Option ℕ) (es : List WriteEntry) → has_read_any (noted n o) es ≡ on_list es o
 noted_any n None es = refl
-noted_any n (Some p) es = or_false (has_written es p)
+noted_any n (Some p) es = or-false (has_written es p)

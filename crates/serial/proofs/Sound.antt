@@ -107,7 +107,7 @@ sound_from e o = (
 )
 
 -- the own list grows by one at most
-length-write : (es : List WriteEntry) (p w : ℕ) → length (write es p w) ≤ suc (length es)
+pub length-write : (es : List WriteEntry) (p w : ℕ) → length (write es p w) ≤ suc (length es)
 length-write [] p w = omega arith
 length-write (e ∷ es) p w =
     let rest = length-write es p w in

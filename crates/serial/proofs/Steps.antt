@@ -1,6 +1,7 @@
 -- What one step does, told by what it reads and writes. Assumes nothing.
 use Rattle.std.proofs.Common.{◌≡◌, ℕ, ◌+◌, ◌<◌, ◌≤◌, Bool, true, false, ◌||◌, eqb, ltb, List, [], ◌∷◌, ◌++◌, length, get_or, Some, None, Option, sym, refl, ap, ◌∙◌, subst, ⊎_elim, arith}
 use Rattle.std.proofs.lemmas.List.{append-nil}
+use Rattle.std.proofs.Math.Bool.{or-false}
 use Rattle.std.proofs.lemmas.Bool.{cases_Bool, cond-true, cond-false, cond_both, ltb-true, lt-ltb, eqb-true}
 use Rattle.pages.specs.Pages.{entry}
 use Rattle.pages.specs.declared.WriteEntry.{WriteEntry}
@@ -22,13 +23,9 @@ abbrev pub named : Option ℕ → ℕ → Bool
 named None q = false
 named (Some p) q = eqb p q
 
-or_false : (b : Bool) → (b || false) ≡ b
-or_false true = refl
-or_false false = refl
-
 -- a write adds its page to the own list, and no other
 pub written_more : (es : List WriteEntry) (p w q : ℕ) → has_written (write es p w) q ≡ (has_written es q || eqb p q)
-written_more [] p w q = or_false (eqb p q)
+written_more [] p w q = or-false (eqb p q)
 written_more (e ∷ es) p w q =
     ⊎_elim
     (λ (h : eqb e.page p ≡ true).
@@ -82,7 +79,7 @@ tied_action ar (Skip a b) o s = (refl, refl, cond_both (eqb (holds s a) (holds s
 
 module _ (pages : List ℕ) (s : Stand) where
   quiet : (q : ℕ) → has_written s.own q ≡ (has_written s.own q || false)
-  quiet q = sym (or_false (has_written s.own q))
+  quiet q = sym (or-false (has_written s.own q))
 
   read_moves : (a : Register) (p k : ℕ) (o : Option ℕ) → written s.own p ≡ o → (t : Stand) → take_read pages s a p o ≡ moved t → Moves pages s (reading a p) (unless_own p o) None k t
   read_moves a p k (Some w) held t e =

@@ -1,5 +1,5 @@
 -- Laws of the table of shadows: places, counts and the furthest. Assumes nothing.
-use Rattle.std.proofs.Common.{◌≡◌, ℕ, zero, suc, ◌<◌, ◌≤◌, Bool, true, false, ◌&&◌, ltb, ◌≢◌, ◌⊎◌, List, [], ◌∷◌, length, get_or, set, is_some, Some, None, Option, sym, refl, ap, ◌∙◌, subst, inl, inr, ⊎_elim, arith, length-set, get_or-set_other, get_or-set_same}
+use Rattle.std.proofs.Common.{◌≡◌, ℕ, zero, suc, ◌<◌, ◌≤◌, Bool, true, false, ◌&&◌, ltb, ◌≢◌, ◌⊎◌, List, [], ◌∷◌, length, replicate, get_or, set, is_some, Some, None, Option, sym, refl, ap, ◌∙◌, subst, inl, inr, ⊎_elim, arith, length-set, get_or-set_other, get_or-set_same}
 use Rattle.std.proofs.lemmas.List.{get_or_past}
 use Rattle.std.proofs.lemmas.Bool.{cases_Bool, cases_eq, cases_lt, cond-true, cond-false, and_parts, ltb-true, ltb-false, true≢false}
 use Rattle.pages.specs.declared.WriteEntry.{WriteEntry}
@@ -21,6 +21,12 @@ none_is (Some x) h = absurd (true≢false h)
 pub some_or_none : {X : Type 0} (o : Option X) → ((x : X) × (o ≡ Some x)) ⊎ (o ≡ None)
 some_or_none None = inr refl
 some_or_none (Some x) = inl (x, refl)
+
+-- where nothing stands at any place
+pub nothing_at : {X : Type 0} (n u : ℕ) → get_or {A = Option X} (replicate n None) u None ≡ None
+nothing_at zero u = refl
+nothing_at (suc n) zero = refl
+nothing_at (suc n) (suc u) = nothing_at n u
 
 -- what stands at a place is within the list
 pub there-within : {X : Type 0} (xs : List (Option X)) (i : ℕ) (x : X) → get_or xs i None ≡ Some x → i < length xs

@@ -1,6 +1,7 @@
 -- A turn keeps the invariant. Assumes nothing.
 use Rattle.std.proofs.Common.{◌≡◌, ℕ, zero, suc, ◌<◌, ◌≤◌, Bool, true, false, not, ◌&&◌, ◌||◌, eqb, leb, ◌≢◌, ◌⊎◌, List, [], ◌∷◌, get_or, is_some, Some, None, Option, sym, refl, ap, ◌∙◌, subst, inl, inr, ⊎_elim, arith}
 use Rattle.std.specs.List.{slice_get}
+use Rattle.std.proofs.Math.Bool.{and-false}
 use Rattle.std.proofs.lemmas.Bool.{cases_Bool, cases_eq, cond-true, cond-false, cond_both, and_parts, and_from, and_cases, or_cases, or_parts, or_from, not-true, not-false, not_from_false, eq-eqb, ne_eqb, eqb-false, leb-false, true≢false, both_ways}
 use Rattle.serial.specs.declared.ReadEntry.{ReadEntry}
 use Rattle.serial.specs.Machine.{Meaning, Steps, Stand, start, store_read, write_of, has_read, has_written, has_read_any}
@@ -158,11 +159,7 @@ module _ (ar : Meaning) (pages : List ℕ) where
   halfway_other t wr u rs ne = ap (λ b. b && read_named rs wr) (ne_eqb u t ne)
 
   halfway-unread : (t : ℕ) (wr : Option ℕ) (rs : List ReadEntry) → read_named rs wr ≡ false → halfway t wr t rs ≡ false
-  halfway-unread t wr rs h = ap (λ b. eqb t t && b) h ∙ never (eqb t t)
-    where
-      never : (b : Bool) → (b && false) ≡ false
-      never true = refl
-      never false = refl
+  halfway-unread t wr rs h = ap (λ b. eqb t t && b) h ∙ and-false (eqb t t)
 
   unread-halfway : (t : ℕ) (wr : Option ℕ) (rs : List ReadEntry) → halfway t wr t rs ≡ false → read_named rs wr ≡ false
   unread-halfway t wr rs h = sym (ap (λ b. b && read_named rs wr) (eq-eqb t t refl)) ∙ h
@@ -427,11 +424,7 @@ module _ (ar : Meaning) (pages : List ℕ) where
   }
     where
       halfway_nothing : (u : ℕ) (rs : List ReadEntry) → halfway t None u rs ≡ false
-      halfway_nothing u rs = never (eqb u t)
-        where
-          never : (b : Bool) → (b && false) ≡ false
-          never true = refl
-          never false = refl
+      halfway_nothing u rs = and-false (eqb u t)
   after_inv t (Some p) e t_in i t_open = written_inv t p t_in e i t_open
 
   -- a turn of a leading shadow

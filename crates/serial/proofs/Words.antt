@@ -1,6 +1,7 @@
 -- The rules satisfy what is said of them in words. Assumes nothing.
 use Rattle.std.proofs.Common.{◌≡◌, ℕ, zero, suc, ◌+◌, ◌<◌, ◌≤◌, Bool, true, false, not, ◌&&◌, ◌||◌, eqb, ltb, leb, ◌≢◌, ◌⊎◌, List, [], ◌∷◌, length, get_or, is_some, Some, None, Ok, Err, Option, Result, unwrap_or, sym, refl, ap, ◌∙◌, subst, inl, inr, ⊎_elim, arith}
 use Rattle.std.specs.List.{slice_get}
+use Rattle.std.proofs.Math.Bool.{and-false}
 use Rattle.std.proofs.lemmas.Bool.{cases_Bool, cases_eq, cases_lt, cond-true, cond-false, cond_both, and_parts, and_from, or_cases, or_left, or_right, le-leb, ltb-true, lt-ltb, le-ltb, or_from, ltb-false, eqb-true, eqb-false, eq-eqb, not-true, not-false, not_from_true, not_from_false, true≢false, both_ways}
 use Rattle.pages.specs.declared.WriteEntry.{WriteEntry}
 use Rattle.script.specs.Script.{decoded}
@@ -9,7 +10,7 @@ use Rattle.serial.specs.declared.fault.CallFault.{CallFault}
 use Rattle.serial.specs.declared.fault.Turned.TheVariants.{Moved}
 use Rattle.serial.specs.declared.fault.Standing.{Standing}
 use Rattle.serial.specs.declared.fault.Standing.TheVariants.{AtEnd, Halted, Ready}
-use Rattle.serial.specs.declared.fault.Answer.TheVariants.{Took, Declined}
+use Rattle.serial.specs.declared.fault.Accepted.TheVariants.{Took}
 use Rattle.serial.specs.Machine.{Meaning, Steps, Stand, start, Taken, moved, off_pages, store_read, write_of, has_read, has_written, has_read_any}
 use Rattle.serial.specs.Alone.{next}
 use Rattle.serial.specs.Rules.{Row, Engine, State, Done, slots, script_of, is_open, row, shadow, with_shadow, reads_of, own_of, lead_writes, ahead, better, furthest, furthest_of, any_shadow, clean, count, has_room, account, read_conflict, account_read, account_reads, write_conflict, account_write, account_writes, before_step, after_step, lead_moves, shadow_moves, standing, in_range, first_open, allow_closed, begin_with, turn_step, turn_standing, turn_shadow, turn_open, kept, remaining, committed, first_off, commit_puts, commit_open, abort_open, Call, set_allowance, begin, turn, commit, abort, does}
@@ -115,14 +116,10 @@ module _ (test : Stand → Bool) where
           (λ (t : test x ≡ true).
           ⊎_elim
           (λ (a : ahead x best ≡ true). subst (SoFar all (suc k)) (sym (cond-true (test x && ahead x best) (Some x) best (and_from (test x) (ahead x best) t a))) (takes_it x q t best a so))
-          (λ (a : ahead x best ≡ false). subst (SoFar all (suc k)) (sym (cond-false (test x && ahead x best) (Some x) best (ap (λ b. test x && b) a ∙ never (test x)))) (stays_it x q best a so))
+          (λ (a : ahead x best ≡ false). subst (SoFar all (suc k)) (sym (cond-false (test x && ahead x best) (Some x) best (ap (λ b. test x && b) a ∙ and-false (test x)))) (stays_it x q best a so))
           (cases_Bool (ahead x best)))
           (λ (t : test x ≡ false). subst (SoFar all (suc k)) (sym (cond-false (test x && ahead x best) (Some x) best (ap (λ b. b && ahead x best) t))) (fails x q t best so))
           (cases_Bool (test x))
-        where
-          never : (b : Bool) → (b && false) ≡ false
-          never true = refl
-          never false = refl
 
   -- all candidates: cs are those from k on
   all_seen : (all cs : Row) (k : ℕ) (best : Option Stand) → ((i : ℕ) → get_or cs i None ≡ get_or all (k + i) None) → SoFar all k best → SoFar all (k + length cs) (furthest test best cs)
@@ -385,7 +382,7 @@ turns_in_words ar s t u sc at sound script h accepted =
     subst Said (sym to_standing) (by_standing o (standing s.engine t u sc at)) accepted
   where
     Said : Done → Type 0
-    Said d = d.1 ≡ Took Moved → TurnsSo ar s t u sc at d.0.engine × (d.0.pages ≡ s.pages)
+    Said d = d.1 ≡ Ok (Took Moved) → TurnsSo ar s t u sc at d.0.engine × (d.0.pages ≡ s.pages)
 
     by_step : Holds s.engine → (x : Option Taken) → next ar sc s.pages at ≡ x → Said (turn_step s t u sc at x)
     by_step o None q = λ e. let z : ◌≡◌ {A = ℕ} 0 1 = cc in absurd (omega arith)
@@ -400,7 +397,7 @@ turns_in_words ar s t u sc at sound script h accepted =
 -- a declined call changes nothing
 module _ (ar : Meaning) (s : State) (f : CallFault) where
   abbrev Unchanged : Done → Type 0
-  Unchanged d = d.1 ≡ Declined f → d.0 ≡ s
+  Unchanged d = d.1 ≡ Err f → d.0 ≡ s
 
   range_unchanged : (t : ℕ) (rest : Done) → Unchanged rest → Unchanged (in_range s t rest)
   range_unchanged t rest h = cond_both (leb t 7) rest _ Unchanged (λ e. h) (λ e q. refl)

@@ -5,8 +5,8 @@ use Rattle.script.specs.declared.Register.TheVariants.{R0}
 use Rattle.script.specs.declared.ScriptFault.{ScriptFault}
 use Rattle.script.specs.Script.{decoded}
 use Rattle.serial.specs.declared.fault.Turned.TheVariants.{Waiting}
-use Rattle.serial.specs.declared.fault.Answer.{Answer}
-use Rattle.serial.specs.declared.fault.Answer.TheVariants.{Allowed, Begun, Took, Committed, Aborted, Declined}
+use Rattle.serial.specs.declared.fault.Accepted.TheVariants.{Allowed, Begun, Took, Committed, Aborted}
+use Rattle.serial.specs.Faults.{Answer}
 use Rattle.serial.specs.Machine.{Meaning, Steps, Stand, holds}
 use Rattle.serial.specs.Alone.{Reached, there, fault, past_end, alone, stand_at, whole_run, before_read_of, put_all}
 use Rattle.serial.specs.Rules.{Engine, State, fresh, script_of, is_open, row, shadow, count, Call, set_allowance, begin, turn, commit, abort, does, after, answers}
@@ -52,12 +52,8 @@ books_accepted ar (abort t) b = Some (with_script b t None)
 
 -- a declined call leaves the book as it is
 abbrev pub books : Meaning → Call → Answer → Ledger → Option Ledger
-books ar c (Declined f) b = Some b
-books ar c Allowed b = books_accepted ar c b
-books ar c Begun b = books_accepted ar c b
-books ar c (Took how) b = books_accepted ar c b
-books ar c (Committed r n) b = books_accepted ar c b
-books ar c Aborted b = books_accepted ar c b
+books ar c (Err f) b = Some b
+books ar c (Ok how) b = books_accepted ar c b
 
 -- the book after a list of calls with their answers, or none where some commit has no place in it
 abbrev pub book_after : Meaning → List Call → List Answer → Option Ledger → Option Ledger
@@ -69,12 +65,12 @@ book_after ar (c ∷ cs) (a ∷ rest) (Some b) = book_after ar cs rest (books ar
 -- what the commits among the answers answered
 abbrev pub commits_among : List Answer → List (ℕ × ℕ)
 commits_among [] = []
-commits_among (Committed r n ∷ rest) = (r, n) ∷ commits_among rest
-commits_among (Declined f ∷ rest) = commits_among rest
-commits_among (Allowed ∷ rest) = commits_among rest
-commits_among (Begun ∷ rest) = commits_among rest
-commits_among (Took how ∷ rest) = commits_among rest
-commits_among (Aborted ∷ rest) = commits_among rest
+commits_among (Ok (Committed r n) ∷ rest) = (r, n) ∷ commits_among rest
+commits_among (Err f ∷ rest) = commits_among rest
+commits_among (Ok Allowed ∷ rest) = commits_among rest
+commits_among (Ok Begun ∷ rest) = commits_among rest
+commits_among (Ok (Took how) ∷ rest) = commits_among rest
+commits_among (Ok Aborted ∷ rest) = commits_among rest
 
 -- what holds in every engine: the allowance is 1 to 8; a closed slot has no shadow, an open one has its leading shadow,
 -- no slot has more than the allowance, and no shadow is for a closed slot
@@ -95,7 +91,7 @@ Rescued ar s t replaced s' =
     → script_of s.engine v ≡ Some script → shadow s.engine v v ≡ Some lead
     → alone ar script s.pages (before_read_of replaced script) ≡ there first → first.step < lead.step
     → (r : Stand) × (shadow s.engine v t ≡ Some r)
-    × ((does ar (turn v t) s).1 ≡ Took Waiting → shadow s'.engine v v ≡ Some first)
+    × ((does ar (turn v t) s).1 ≡ Ok (Took Waiting) → shadow s'.engine v v ≡ Some first)
 
 -- the calls, from a fresh engine over these pages, book serially
 pub record Booked (ar : Meaning) (pages : List ℕ) (calls : List Call) : Type 0 where
@@ -110,7 +106,7 @@ pub record Booked (ar : Meaning) (pages : List ℕ) (calls : List Call) : Type 0
   -- every accepted commit under allowance 8 rescues what it spoils
   pub rescues : (before rest : List Call) (t r n : ℕ) (last : Stand) → calls ≡ before ++ (commit t ∷ rest)
       → (after ar before (fresh pages)).engine.allowance ≡ 8
-      → (does ar (commit t) (after ar before (fresh pages))).1 ≡ Committed r n
+      → (does ar (commit t) (after ar before (fresh pages))).1 ≡ Ok (Committed r n)
       → shadow (after ar before (fresh pages)).engine t t ≡ Some last
       → Rescued ar (after ar before (fresh pages)) t last.own (does ar (commit t) (after ar before (fresh pages))).0
   pub tidy : Tidy (after ar calls (fresh pages)).engine

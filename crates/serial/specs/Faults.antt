@@ -1,10 +1,15 @@
--- The numbers and values of a declined call. Assumes nothing.
-use Rattle.std.specs.Prelude.{ℕ, List, [], ◌∷◌}
+-- What a call answers, and the numbers and values of a declined one. Assumes nothing.
+use Rattle.std.specs.Prelude.{ℕ, List, [], ◌∷◌, Result}
 use Rattle.pages.specs.declared.StoreFault.{StoreFault}
 use Rattle.script.specs.Script.{script_cause, script_returned}
 use Rattle.serial.specs.declared.fault.StepFault.{StepFault}
+use Rattle.serial.specs.declared.fault.Accepted.{Accepted}
 use Rattle.serial.specs.declared.fault.CallFault.{CallFault}
 use Rattle.serial.specs.declared.fault.CallFault.TheVariants.{NoSlot, BadAllowance, SlotsOpen, AlreadyOpen, Undecoded, NotOpen, NoShadow, OffPages, NotEnded, Unwritable}
+
+-- what a call answers: what an accepted one does, or why it is declined
+abbrev pub Answer : Type 0
+Answer = Result Accepted CallFault
 
 abbrev pub step_fault : ℕ → ℕ → StoreFault → StepFault
 step_fault slot step fault = record { slot = slot; step = step; fault = fault }

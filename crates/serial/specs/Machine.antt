@@ -1,10 +1,11 @@
 -- Where a shadow stands, and what taking one step does. Assumes nothing.
-use Rattle.std.specs.Prelude.{ℕ, ◌+◌, ◌%◌, ◌^◌, Bool, false, cond, ◌||◌, List, [], ◌∷◌, ◌++◌, length, Some, None, Option, ◌==◌, nat_lt, slice_index, slice_set}
+use Rattle.std.specs.Prelude.{ℕ, ◌+◌, ◌%◌, ◌^◌, Bool, cond, List, [], ◌∷◌, ◌++◌, length, Some, None, Option, ◌==◌, nat_lt, slice_index, slice_set}
+use Rattle.std.specs.List.{list_any}
 use Rattle.arithmetic.specs.declared.Operation.{Operation}
 use Rattle.pages.specs.Pages.{entry}
 use Rattle.pages.specs.declared.WriteEntry.{WriteEntry}
+use Rattle.script.specs.Script.{index}
 use Rattle.script.specs.declared.Register.{Register}
-use Rattle.script.specs.declared.Register.TheVariants.{R0, R1, R2, R3}
 use Rattle.script.specs.declared.Action.{Action}
 use Rattle.script.specs.declared.Action.TheVariants.{Read, ReadIndexed, Write, WriteIndexed, Set, Combine, Skip}
 use Rattle.script.specs.declared.Step.{Step}
@@ -27,12 +28,6 @@ pub record Stand : Type 0 where
 -- at step 0 all registers are 0, and nothing is read or written
 abbrev pub start : Stand
 start = record { step = 0; registers = 0 ∷ 0 ∷ 0 ∷ 0 ∷ []; reads = []; own = [] }
-
-abbrev pub index : Register → ℕ
-index R0 = 0
-index R1 = 1
-index R2 = 2
-index R3 = 3
 
 abbrev pub holds : Stand → Register → ℕ
 holds s r = slice_index s.registers (index r)
@@ -147,15 +142,12 @@ write_of (Some st) s = page_written st.action st.operand s
 
 -- whether some recorded read names the page
 abbrev pub has_read : List ReadEntry → ℕ → Bool
-has_read [] p = false
-has_read (r ∷ rs) p = r.page == p || has_read rs p
+has_read rs p = list_any (λ r. r.page == p) rs
 
 -- whether the page stands on the list
 abbrev pub has_written : List WriteEntry → ℕ → Bool
-has_written [] p = false
-has_written (e ∷ es) p = e.page == p || has_written es p
+has_written es p = list_any (λ e. e.page == p) es
 
 -- whether some recorded read names a page of the list
 abbrev pub has_read_any : List ReadEntry → List WriteEntry → Bool
-has_read_any [] es = false
-has_read_any (r ∷ rs) es = has_written es r.page || has_read_any rs es
+has_read_any rs es = list_any (λ r. has_written es r.page) rs

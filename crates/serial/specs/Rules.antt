@@ -16,9 +16,8 @@ use Rattle.serial.specs.declared.fault.CallFault.TheVariants.{NoSlot, BadAllowan
 use Rattle.serial.specs.declared.fault.Turned.TheVariants.{Moved, Ended, Waiting}
 use Rattle.serial.specs.declared.fault.Standing.{Standing}
 use Rattle.serial.specs.declared.fault.Standing.TheVariants.{AtEnd, Halted, Ready}
-use Rattle.serial.specs.declared.fault.Answer.{Answer}
-use Rattle.serial.specs.declared.fault.Answer.TheVariants.{Allowed, Begun, Took, Committed, Aborted, Declined}
-use Rattle.serial.specs.Faults.{step_fault}
+use Rattle.serial.specs.declared.fault.Accepted.TheVariants.{Allowed, Begun, Took, Committed, Aborted}
+use Rattle.serial.specs.Faults.{Answer, step_fault}
 use Rattle.serial.specs.Machine.{Meaning, Steps, Stand, start, holds, Taken, moved, off_pages, store_read, write_of, has_read, has_written, has_read_any}
 use Rattle.serial.specs.Alone.{next, on_list, put_all}
 
@@ -185,7 +184,7 @@ abbrev pub Done : Type 0
 Done = State × Answer
 
 abbrev pub decline : State → CallFault → Done
-decline s f = (s, Declined f)
+decline s f = (s, Err f)
 
 -- slots are numbered 0 to 7
 abbrev pub in_range : State → ℕ → Done → Done
@@ -200,7 +199,7 @@ first_open n (Some script ∷ scripts) = Some n
 abbrev pub allow_closed : State → ℕ → Option ℕ → Done
 allow_closed s k (Some t) = decline s (SlotsOpen t)
 allow_closed s k None =
-    (with_engine s (record { allowance = k; scripts = s.engine.scripts; shadows = s.engine.shadows }), Allowed)
+    (with_engine s (record { allowance = k; scripts = s.engine.scripts; shadows = s.engine.shadows }), Ok Allowed)
 
 abbrev pub allows : State → ℕ → Done
 allows s k =
@@ -213,7 +212,7 @@ begun e t script =
 
 abbrev pub begin_with : State → ℕ → Result Steps ScriptFault → Done
 begin_with s t (Err f) = decline s (Undecoded f)
-begin_with s t (Ok script) = (with_engine s (begun s.engine t script), Begun)
+begin_with s t (Ok script) = (with_engine s (begun s.engine t script), Ok Begun)
 
 abbrev pub begins : State → ℕ → List ℕ → Done
 begins s t bytes = in_range s t (cond (is_open s.engine t) (decline s (AlreadyOpen t)) (begin_with s t (decoded bytes)))
@@ -221,13 +220,13 @@ begins s t bytes = in_range s t (cond (is_open s.engine t) (decline s (AlreadyOp
 -- turn: a leading shadow at its end has ended, a waiting shadow waits; else one step is taken. In every engine a shadow that
 -- is able to try a step is before its script's end, so that there is always one to take
 abbrev pub turn_step : State → ℕ → ℕ → Steps → Stand → Option Taken → Done
-turn_step s t u script at None = (s, Took Ended)
+turn_step s t u script at None = (s, Ok (Took Ended))
 turn_step s t u script at (Some (off_pages p)) = decline s (OffPages (step_fault t at.step (fault_at p)))
-turn_step s t u script at (Some (moved to)) = (with_engine s (shadow_moves s.engine t u script at to), Took Moved)
+turn_step s t u script at (Some (moved to)) = (with_engine s (shadow_moves s.engine t u script at to), Ok (Took Moved))
 
 abbrev pub turn_standing : Meaning → State → ℕ → ℕ → Steps → Stand → Standing → Done
-turn_standing ar s t u script at AtEnd = (s, Took Ended)
-turn_standing ar s t u script at Halted = (s, Took Waiting)
+turn_standing ar s t u script at AtEnd = (s, Ok (Took Ended))
+turn_standing ar s t u script at Halted = (s, Ok (Took Waiting))
 turn_standing ar s t u script at Ready = turn_step s t u script at (next ar script s.pages at)
 
 abbrev pub turn_shadow : Meaning → State → ℕ → ℕ → Steps → Option Stand → Done
@@ -287,7 +286,7 @@ first_off size (w ∷ own) = cond (nat_lt w.page size) (first_off size own) (Som
 abbrev pub commit_puts : State → ℕ → Stand → Option ℕ → Done
 commit_puts s t lead (Some p) = decline s (Unwritable t (fault_at p))
 commit_puts s t lead None =
-    (record { engine = committed s.engine t lead.own; pages = put_all lead.own s.pages }, Committed (holds lead R0) (length lead.own))
+    (record { engine = committed s.engine t lead.own; pages = put_all lead.own s.pages }, Ok (Committed (holds lead R0) (length lead.own)))
 
 abbrev pub commit_lead : State → ℕ → Steps → Stand → Done
 commit_lead s t script lead =
@@ -304,7 +303,7 @@ commits s t = in_range s t (commit_open s t (script_of s.engine t))
 -- abort: t closes, and no page changes
 abbrev pub abort_open : State → ℕ → Option Steps → Done
 abort_open s t None = decline s (NotOpen t)
-abort_open s t (Some script) = (with_engine s (closed s.engine t s.engine.shadows), Aborted)
+abort_open s t (Some script) = (with_engine s (closed s.engine t s.engine.shadows), Ok Aborted)
 
 abbrev pub aborts : State → ℕ → Done
 aborts s t = in_range s t (abort_open s t (script_of s.engine t))
@@ -336,12 +335,12 @@ answers ar (c ∷ cs) s = (does ar c s).1 ∷ answers ar cs (does ar c s).0
 
 -- what an accepted commit puts: its slot's leading shadow's list; any other call puts nothing
 abbrev pub list_put : Engine → Call → Answer → List WriteEntry
-list_put e (commit t) (Committed r n) = lead_writes e t
-list_put e (commit t) (Declined f) = []
-list_put e (commit t) Allowed = []
-list_put e (commit t) Begun = []
-list_put e (commit t) (Took how) = []
-list_put e (commit t) Aborted = []
+list_put e (commit t) (Ok (Committed r n)) = lead_writes e t
+list_put e (commit t) (Err f) = []
+list_put e (commit t) (Ok Allowed) = []
+list_put e (commit t) (Ok Begun) = []
+list_put e (commit t) (Ok (Took how)) = []
+list_put e (commit t) (Ok Aborted) = []
 list_put e (set_allowance k) a = []
 list_put e (begin t bytes) a = []
 list_put e (turn t u) a = []

@@ -1,9 +1,9 @@
 -- The rules in words: relations that say what the rules do, without their steps. Assumes nothing.
-use Rattle.std.specs.Prelude.{◌≡◌, ℕ, ◌<◌, ◌≤◌, Bool, true, false, not, ◌≢◌, ◌⊎◌, List, is_some, Some, None, Option, slice_index_or}
+use Rattle.std.specs.Prelude.{◌≡◌, ℕ, ◌<◌, ◌≤◌, Bool, true, false, not, ◌≢◌, ◌⊎◌, List, is_some, Some, None, Ok, Err, Option, slice_index_or}
 use Rattle.std.specs.List.{slice_get}
 use Rattle.pages.specs.declared.WriteEntry.{WriteEntry}
 use Rattle.serial.specs.declared.fault.Turned.TheVariants.{Moved}
-use Rattle.serial.specs.declared.fault.Answer.TheVariants.{Took, Committed, Declined}
+use Rattle.serial.specs.declared.fault.Accepted.TheVariants.{Took, Committed}
 use Rattle.serial.specs.declared.fault.CallFault.{CallFault}
 use Rattle.serial.specs.Machine.{Meaning, Steps, Stand, start, moved, store_read, write_of, has_read, has_written, has_read_any}
 use Rattle.serial.specs.Alone.{next, put_all}
@@ -83,16 +83,16 @@ pub record TurnsSo (ar : Meaning) (st : State) (t u : ℕ) (script : Steps) (s :
 abbrev pub CommitsInWords : Type 0
 CommitsInWords =
     (ar : Meaning) (s : State) (t r n : ℕ) (lead : Stand) → SoundEngine s.engine
-    → (does ar (commit t) s).1 ≡ Committed r n → shadow s.engine t t ≡ Some lead
+    → (does ar (commit t) s).1 ≡ Ok (Committed r n) → shadow s.engine t t ≡ Some lead
     → CommitsSo s.engine t lead.own (does ar (commit t) s).0.engine × ((does ar (commit t) s).0.pages ≡ put_all lead.own s.pages)
 
 abbrev pub TurnsInWords : Type 0
 TurnsInWords =
     (ar : Meaning) (s : State) (t u : ℕ) (script : Steps) (at : Stand) → SoundEngine s.engine
     → script_of s.engine t ≡ Some script → shadow s.engine t u ≡ Some at
-    → (does ar (turn t u) s).1 ≡ Took Moved
+    → (does ar (turn t u) s).1 ≡ Ok (Took Moved)
     → TurnsSo ar s t u script at (does ar (turn t u) s).0.engine × ((does ar (turn t u) s).0.pages ≡ s.pages)
 
 -- a declined call leaves everything as it was
 abbrev pub DeclinedChangesNothing : Type 0
-DeclinedChangesNothing = (ar : Meaning) (c : Call) (s : State) (f : CallFault) → (does ar c s).1 ≡ Declined f → (does ar c s).0 ≡ s
+DeclinedChangesNothing = (ar : Meaning) (c : Call) (s : State) (f : CallFault) → (does ar c s).1 ≡ Err f → (does ar c s).0 ≡ s

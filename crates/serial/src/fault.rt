@@ -1,6 +1,5 @@
 // Why a call is declined, and what calls answer.
-ghost use Rattle.std.specs.Prelude.{◌≡◌, [], ◌∷◌};
-ghost use Rattle.std.specs.List.{slice_get};
+ghost use Rattle.std.specs.Prelude.{◌≡◌};
 ghost use Rattle.pages.specs.declared.StoreFault.{StoreFault};
 ghost use Rattle.serial.specs.Faults.{call_cause, call_returned, step_fault};
 ghost use Rattle.serial.specs.declared.fault.CallFault.TheVariants.{Undecoded, OffPages};
@@ -8,6 +7,7 @@ ghost use Rattle.serial.specs.declared.fault.CallFault.TheVariants.{Undecoded, O
 use basics::Refusal;
 use pages::StoreFault;
 use script::ScriptFault;
+use std::fmt;
 
 // A step for a page that the store does not have: the slot, the step and the whole store fault.
 #[derive(Clone, Copy, PartialEq, Eq, Debug)]
@@ -90,34 +90,22 @@ impl Refusal for CallFault {
 
     fn value(&self, index: usize) -> Option<usize> {
         match self {
-            CallFault::NoSlot(n) => first_of(index, *n as usize),
-            CallFault::BadAllowance(n) => first_of(index, *n as usize),
-            CallFault::SlotsOpen(n) => first_of(index, *n as usize),
-            CallFault::AlreadyOpen(n) => first_of(index, *n as usize),
+            CallFault::NoSlot(n)
+            | CallFault::BadAllowance(n)
+            | CallFault::SlotsOpen(n)
+            | CallFault::AlreadyOpen(n)
+            | CallFault::NotOpen(n)
+            | CallFault::NoShadow(n) => [*n as usize].get(index).copied(),
             CallFault::Undecoded(fault) => fault.value(index),
-            CallFault::NotOpen(n) => first_of(index, *n as usize),
-            CallFault::NoShadow(n) => first_of(index, *n as usize),
-            CallFault::OffPages(at) => match index {
-                0 => Some(at.slot as usize),
-                1 => Some(at.step),
-                2 => Some(at.fault.page as usize),
-                _ => None,
-            },
-            CallFault::NotEnded(step) => first_of(index, *step),
-            CallFault::Unwritable(slot, fault) => match index {
-                0 => Some(*slot as usize),
-                1 => Some(fault.page as usize),
-                _ => None,
-            },
+            CallFault::OffPages(at) => [at.slot as usize, at.step, at.fault.page as usize]
+                .get(index)
+                .copied(),
+            CallFault::NotEnded(step) => [*step].get(index).copied(),
+            CallFault::Unwritable(slot, fault) => {
+                [*slot as usize, fault.page as usize].get(index).copied()
+            }
         }
     }
-}
-
-// The one value of a refusal that has one.
-fn first_of(index: usize, value: usize) -> Option<usize>
-    ensures { result ≡ slice_get (value ∷ []) index }
-{
-    if index == 0 { Some(value) } else { None }
 }
 
 // How a turn ends.
@@ -128,6 +116,16 @@ pub enum Turned {
     Waiting,
 }
 
+impl fmt::Display for Turned {
+    fn fmt<W: fmt::Write>(&self, f: &mut fmt::Formatter<W>) -> fmt::Result {
+        f.write_str(match self {
+            Turned::Moved => "moved",
+            Turned::Ended => "ended",
+            Turned::Waiting => "waiting",
+        })
+    }
+}
+
 // What a shadow's next turn finds: a leading shadow at its end, a shadow that waits, or one able to try a step.
 #[derive(Clone, Copy, PartialEq, Eq, Debug)]
 pub enum Standing {
@@ -136,14 +134,26 @@ pub enum Standing {
     Ready,
 }
 
-// What one of the five calls answers.
+impl fmt::Display for Standing {
+    fn fmt<W: fmt::Write>(&self, f: &mut fmt::Formatter<W>) -> fmt::Result {
+        f.write_str(match self {
+            Standing::AtEnd => "ended",
+            Standing::Halted => "waiting",
+            Standing::Ready => "ready",
+        })
+    }
+}
+
+// What an accepted call answers.
 #[derive(Clone, Copy, PartialEq, Eq, Debug)]
-pub enum Answer {
+pub enum Accepted {
     Allowed,
     Begun,
     Took(Turned),
     // register 0 and the number of pages put
     Committed(u32, usize),
     Aborted,
-    Declined(CallFault),
 }
+
+// What one of the five calls answers.
+pub type Answer = Result<Accepted, CallFault>;

@@ -9,7 +9,7 @@ ghost use Rattle.serial.specs.Words.{PicksFurthest, CommitsInWords, AccountsInWo
 
 mod fault;
 
-pub use fault::{Answer, CallFault, Standing, StepFault, Turned};
+pub use fault::{Accepted, Answer, CallFault, Standing, StepFault, Turned};
 
 // A recorded store read: an entry of a read set.
 #[derive(Clone, Copy, PartialEq, Eq, Debug)]

@@ -3,13 +3,13 @@ ghost use Rattle.std.specs.Prelude.{◌≡◌};
 ghost use Rattle.serial.specs.Rules.{does, list_put};
 ghost use Rattle.pages.specs.Pages.{Chain};
 ghost use Rattle.engine.specs.Table.{engine_of};
-ghost use Rattle.engine.specs.Calls.{state_of, answers_by};
+ghost use Rattle.engine.specs.Calls.{state_of};
 ghost use Rattle.engine.specs.Booking.{call_of, Carried};
 
 use super::Engine;
 use arithmetic::Arithmetic;
 use pages::Store;
-use serial::{Answer, CallFault};
+use serial::{Accepted, Answer};
 
 // One of the five calls, with its arguments.
 #[derive(Clone, Copy)]
@@ -19,16 +19,6 @@ pub enum Call<'a> {
     Turn { slot: u32, other: u32 },
     Commit { slot: u32 },
     Abort { slot: u32 },
-}
-
-// What a call that answers nothing but its acceptance answers.
-fn answer_unit(res: Result<(), CallFault>, accepted: Answer) -> Answer
-    ensures { result ≡ answers_by (λ _. accepted) res }
-{
-    match res {
-        Ok(()) => accepted,
-        Err(fault) => Answer::Declined(fault),
-    }
 }
 
 impl Engine {
@@ -43,20 +33,17 @@ impl Engine {
         ensures puts { Chain S.Store.wrote store.old (list_put (engine_of self.old.table) (call_of call.now) result) store.new }
     {
         match call {
-            Call::SetAllowance { allowance } => answer_unit(
-                self.set_allowance(*allowance),
-                Answer::Allowed,
-            ),
-            Call::Begin { slot, script } => answer_unit(self.begin(*slot, script), Answer::Begun),
-            Call::Turn { slot, other } => match self.turn(*slot, *other, store, arithmetic) {
-                Ok(turned) => Answer::Took(turned),
-                Err(fault) => Answer::Declined(fault),
-            },
-            Call::Commit { slot } => match self.commit(*slot, store) {
-                Ok((word, pages)) => Answer::Committed(word, pages),
-                Err(fault) => Answer::Declined(fault),
-            },
-            Call::Abort { slot } => answer_unit(self.abort(*slot), Answer::Aborted),
+            Call::SetAllowance { allowance } => {
+                self.set_allowance(*allowance).map(|()| Accepted::Allowed)
+            }
+            Call::Begin { slot, script } => self.begin(*slot, script).map(|()| Accepted::Begun),
+            Call::Turn { slot, other } => self
+                .turn(*slot, *other, store, arithmetic)
+                .map(|turned| Accepted::Took(turned)),
+            Call::Commit { slot } => self
+                .commit(*slot, store)
+                .map(|(word, pages)| Accepted::Committed(word, pages)),
+            Call::Abort { slot } => self.abort(*slot).map(|()| Accepted::Aborted),
         }
     }
 }
@@ -73,8 +60,9 @@ pub fn carry_out<S: Store, A: Arithmetic>(
 {
     let mut engine = Engine::new();
     let count = calls.len().min(answers.len());
-    for i in 0..count {
-        answers[i] = engine.call(&calls[i], store, arithmetic);
+    // A zip with the answers would tell a proof nothing of what they hold after it.
+    for (i, call) in calls[..count].iter().enumerate() {
+        answers[i] = engine.call(call, store, arithmetic);
     }
     (engine, count)
 }

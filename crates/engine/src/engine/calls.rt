@@ -1,43 +1,30 @@
 // The five calls.
-ghost use Rattle.std.specs.Prelude.{◌≡◌, ℕ, ◌<◌, ◌≤◌, List, length, None, MatchResult};
+ghost use Rattle.std.specs.Prelude.{◌≡◌, ℕ, List, length, None, OnErr};
 ghost use Rattle.std.specs.Option.{unwrap_or};
-ghost use Rattle.serial.specs.declared.fault.CallFault.TheVariants.{NoSlot};
-ghost use Rattle.serial.specs.declared.fault.Answer.TheVariants.{Allowed, Begun, Took, Committed, Aborted};
+ghost use Rattle.serial.specs.declared.fault.Accepted.TheVariants.{Allowed, Begun, Took, Aborted};
 ghost use Rattle.serial.specs.Machine.{start as started};
 ghost use Rattle.serial.specs.Rules.{fresh_engine, shadow as shadow_at, lead_writes, first_off, allows, begins, turns, commits, aborts};
 ghost use Rattle.engine.specs.View.{stand_of};
 ghost use Rattle.engine.specs.Table.{engine_of};
 ghost use Rattle.engine.specs.Alone.{Inside};
-ghost use Rattle.engine.specs.Calls.{state_of, answers_by, committing, UnlessAccepted, PutsList};
+ghost use Rattle.engine.specs.Calls.{state_of, answers_by, committing, PutsList};
 
 use super::Engine;
 use crate::alone::put_all;
+use crate::machine::Machine;
 use crate::shadow::Shadow;
+use crate::slot::Slot;
 use crate::table::Table;
 use arithmetic::Arithmetic;
 use pages::{Reader, Store, StoreFault, WriteEntry};
 use script::{Register, decode};
 use serial::{CallFault, Standing, Turned};
 
-// The slot with this number.
-pub(crate) fn slot_of(slot: u32) -> Result<usize, CallFault>
-    ensures { MatchResult result (λ t. (t ≡ slot) × (t ≤ 7)) (λ f. (f ≡ NoSlot slot) × (7 < slot)) }
-{
-    if slot > 7 {
-        return Err(CallFault::NoSlot(slot));
-    }
-    Ok(slot as usize)
-}
-
 // The leading shadow of an open slot.
-fn lead_of(table: &Table, t: usize) -> Shadow
-    requires { t < 8 }
+fn lead_of(table: &Table, t: Slot) -> Shadow
     ensures { stand_of result ≡ unwrap_or (shadow_at (engine_of table.now) t t) started }
 {
-    match table.shadow(t, t) {
-        Some(lead) => lead,
-        None => Shadow::start(),
-    }
+    table.shadow(t, t).unwrap_or(Shadow::start())
 }
 
 // The first page of a list that is not below the size.
@@ -45,14 +32,12 @@ fn first_missing(own: &[WriteEntry], size: u32) -> Option<u32>
     ensures rule { result ≡ first_off size own.now }
     ensures inside { result ≡ None → Inside size own.now }
 {
-    for entry in own {
-        if entry.page >= size {
-            return Some(entry.page);
-        }
-    }
-    None
+    own.iter()
+        .map(|entry| entry.page)
+        .find(|page| *page >= size)
 }
 
+// That a refusal leaves the engine as it was is a clause of each call, where its reader looks for it.
 impl Engine {
     // A fresh engine has allowance 2 and all slots closed.
     pub fn new() -> Engine
@@ -66,13 +51,13 @@ impl Engine {
     // Sets the allowance, while no slot is open.
     pub fn set_allowance(&mut self, k: u32) -> Result<(), CallFault>
         ensures rule { (pages : List ℕ) → allows (state_of self.old pages) k ≡ (state_of self.new pages, answers_by (λ _. Allowed) result) }
-        ensures declined { UnlessAccepted result (self.new.table ≡ self.old.table) }
+        ensures declined { OnErr result (self.new.table ≡ self.old.table) }
     {
         if k < 1 || k > 8 {
             return Err(CallFault::BadAllowance(k));
         }
         if let Some(slot) = self.table.first_open() {
-            return Err(CallFault::SlotsOpen(slot as u32));
+            return Err(CallFault::SlotsOpen(slot.into()));
         }
         self.table.set_allowance(k as usize);
         Ok(())
@@ -81,9 +66,9 @@ impl Engine {
     // Opens a slot with a script.
     pub fn begin(&mut self, slot: u32, script: &[u8]) -> Result<(), CallFault>
         ensures rule { (pages : List ℕ) → begins (state_of self.old pages) slot script.now ≡ (state_of self.new pages, answers_by (λ _. Begun) result) }
-        ensures declined { UnlessAccepted result (self.new.table ≡ self.old.table) }
+        ensures declined { OnErr result (self.new.table ≡ self.old.table) }
     {
-        let t = slot_of(slot)?;
+        let t = Slot::try_from(slot)?;
         if self.table.is_open(t) {
             return Err(CallFault::AlreadyOpen(slot));
         }
@@ -101,22 +86,15 @@ impl Engine {
         arithmetic: &A,
     ) -> Result<Turned, CallFault>
         ensures rule { turns (A.Arithmetic.meaning arithmetic.now) (state_of self.old (R.Reader.pages reader.now)) slot other ≡ (state_of self.new (R.Reader.pages reader.now), answers_by Took result) }
-        ensures declined { UnlessAccepted result (self.new.table ≡ self.old.table) }
+        ensures declined { OnErr result (self.new.table ≡ self.old.table) }
     {
-        let t = slot_of(slot)?;
-        let u = slot_of(other)?;
-        let Some(script) = self.table.script(t) else {
-            return Err(CallFault::NotOpen(slot));
-        };
-        let Some(shadow) = self.table.shadow(t, u) else {
-            return Err(CallFault::NoShadow(other));
-        };
-        match self.table.standing(t, u, &script, &shadow) {
+        let named = self.table.named(slot, other)?;
+        match self.table.standing(&named) {
             Standing::AtEnd => Ok(Turned::Ended),
             Standing::Halted => Ok(Turned::Waiting),
             Standing::Ready => {
                 self.table
-                    .take_turn(t, u, &script, shadow, reader, arithmetic)?;
+                    .take_turn(&named, &Machine { reader, arithmetic })?;
                 Ok(Turned::Moved)
             }
         }
@@ -127,12 +105,10 @@ impl Engine {
     pub fn commit<S: Store>(&mut self, slot: u32, store: &mut S) -> Result<(u32, usize), CallFault>
         ensures rule { commits (state_of self.old (S.Reader.pages store.old)) slot ≡ (state_of self.new (S.Reader.pages store.new), answers_by committing result) }
         ensures puts { PutsList S.Store.wrote (lead_writes (engine_of self.old.table) slot) store.old result store.new }
-        ensures declined { UnlessAccepted result (self.new.table ≡ self.old.table) }
+        ensures declined { OnErr result (self.new.table ≡ self.old.table) }
     {
-        let t = slot_of(slot)?;
-        let Some(script) = self.table.script(t) else {
-            return Err(CallFault::NotOpen(slot));
-        };
+        let t = Slot::try_from(slot)?;
+        let script = self.table.script(t).ok_or(CallFault::NotOpen(slot))?;
         let lead = lead_of(&self.table, t);
         if lead.step() < script.len() {
             return Err(CallFault::NotEnded(lead.step()));
@@ -148,9 +124,9 @@ impl Engine {
     // Closes a slot, and changes no page.
     pub fn abort(&mut self, slot: u32) -> Result<(), CallFault>
         ensures rule { (pages : List ℕ) → aborts (state_of self.old pages) slot ≡ (state_of self.new pages, answers_by (λ _. Aborted) result) }
-        ensures declined { UnlessAccepted result (self.new.table ≡ self.old.table) }
+        ensures declined { OnErr result (self.new.table ≡ self.old.table) }
     {
-        let t = slot_of(slot)?;
+        let t = Slot::try_from(slot)?;
         if !self.table.is_open(t) {
             return Err(CallFault::NotOpen(slot));
         }

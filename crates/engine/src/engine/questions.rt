@@ -7,8 +7,8 @@ ghost use Rattle.engine.specs.Table.{engine_of};
 ghost use Rattle.engine.specs.Questions.{stand_told, entry_told};
 
 use super::Engine;
-use super::calls::slot_of;
 use crate::shadow::Shadow;
+use crate::slot::Slot;
 use serial::{CallFault, ReadEntry, Standing};
 
 impl Engine {
@@ -16,15 +16,8 @@ impl Engine {
     pub fn stand(&self, slot: u32, other: u32) -> Result<(usize, Standing), CallFault>
         ensures { result ≡ stand_told (engine_of self.now.table) slot other }
     {
-        let t = slot_of(slot)?;
-        let u = slot_of(other)?;
-        let Some(script) = self.table.script(t) else {
-            return Err(CallFault::NotOpen(slot));
-        };
-        let Some(shadow) = self.table.shadow(t, u) else {
-            return Err(CallFault::NoShadow(other));
-        };
-        Ok((shadow.step(), self.table.standing(t, u, &script, &shadow)))
+        let named = self.table.named(slot, other)?;
+        Ok((named.shadow.step(), self.table.standing(&named)))
     }
 
     // The step and page of a shadow's recorded read, counted from 0, or absent.
@@ -36,27 +29,16 @@ impl Engine {
     ) -> Result<Option<ReadEntry>, CallFault>
         ensures { result ≡ entry_told (engine_of self.now.table) slot other index }
     {
-        let t = slot_of(slot)?;
-        let u = slot_of(other)?;
-        if !self.table.is_open(t) {
-            return Err(CallFault::NotOpen(slot));
-        }
-        let Some(shadow) = self.table.shadow(t, u) else {
-            return Err(CallFault::NoShadow(other));
-        };
-        Ok(shadow.read(index))
+        let named = self.table.named(slot, other)?;
+        Ok(named.shadow.read(index))
     }
 
     // A copy of a shadow, where there is one.
     pub fn shadow(&self, slot: u32, other: u32) -> Option<Shadow>
         ensures { option_map stand_of result ≡ shadow_at (engine_of self.now.table) slot other }
     {
-        if slot > 7 {
-            return None;
-        }
-        if other > 7 {
-            return None;
-        }
-        self.table.shadow(slot as usize, other as usize)
+        let t = Slot::try_from(slot).ok()?;
+        let u = Slot::try_from(other).ok()?;
+        self.table.shadow(t, u)
     }
 }

@@ -1,9 +1,11 @@
-// What taking a step does to a shadow, an effect at a time.
+// What taking a step does to a shadow, an effect at a time. That there is room for it is a clause of each and no invariant: at
+// the end of sixteen steps a shadow has none.
 ghost use Rattle.std.specs.Prelude.{◌≡◌, ◌<◌, length};
 ghost use Rattle.serial.specs.Machine.{with_register, recorded, take_effect, takes, reading, writing};
 ghost use Rattle.engine.specs.View.{stand_of, with_own, with_steps, Room, Fetched, Took};
 
-use super::{Shadow, index_of, place};
+use super::{Shadow, place};
+use crate::machine::Machine;
 use arithmetic::Arithmetic;
 use pages::{Reader, StoreFault, WriteEntry};
 use script::{Action, Register, Step};
@@ -40,7 +42,7 @@ impl Shadow {
         requires { (stand_of self.old).step < 16 }
         ensures { stand_of self.new ≡ with_register (stand_of self.old) register word }
     {
-        self.registers[index_of(register)] = word;
+        self.registers[usize::from(register)] = word;
         self.step += 1;
     }
 
@@ -95,34 +97,35 @@ impl Shadow {
     pub(crate) fn take_step<R: Reader, A: Arithmetic>(
         &mut self,
         step: &Step,
-        reader: &R,
-        arithmetic: &A,
+        machine: &Machine<R, A>,
     ) -> Result<(), StoreFault>
         requires { Room (stand_of self.old) }
-        ensures { Took self.old (takes (A.Arithmetic.meaning arithmetic.now) (R.Reader.pages reader.now) step.now (stand_of self.old)) result self.new }
+        ensures { Took self.old (takes (A.Arithmetic.meaning machine.now.arithmetic.now) (R.Reader.pages machine.now.reader.now) step.now (stand_of self.old)) result self.new }
     {
         let operand = step.operand;
         match step.action {
-            Action::Read(a) => self.take_read(a, operand, reader),
+            Action::Read(a) => self.take_read(a, operand, machine.reader),
             Action::ReadIndexed(a, b) => {
                 let page = self.indexed_page(operand, b);
-                self.take_read(a, page, reader)
+                self.take_read(a, page, machine.reader)
             }
             Action::Write(a) => {
                 let word = self.register(a);
-                self.take_write(operand, word, reader)
+                self.take_write(operand, word, machine.reader)
             }
             Action::WriteIndexed(a, b) => {
                 let page = self.indexed_page(operand, b);
                 let word = self.register(a);
-                self.take_write(page, word, reader)
+                self.take_write(page, word, machine.reader)
             }
             Action::Set(a) => {
                 self.take_word(a, operand);
                 Ok(())
             }
             Action::Combine(operation, a, b) => {
-                let word = arithmetic.combine(operation, self.register(a), self.register(b));
+                let word = machine
+                    .arithmetic
+                    .combine(operation, self.register(a), self.register(b));
                 self.take_word(a, word);
                 Ok(())
             }

@@ -1,5 +1,5 @@
 // Accounting: a slot whose leading shadow conflicts with another's gets a shadow for it.
-ghost use Rattle.std.specs.Prelude.{◌≡◌, ◌<◌};
+ghost use Rattle.std.specs.Prelude.{◌≡◌};
 ghost use Rattle.std.specs.Option.{option_map};
 ghost use Rattle.serial.specs.Machine.{has_read, has_written as stands_on};
 ghost use Rattle.serial.specs.Rules.{slots, row as row_at, own_of, reads_of, shadow as shadow_at, lead_writes, clean, furthest_of, has_room, account as accounted, read_conflict, account_read, account_reads, write_conflict, account_write, account_writes, before_step, after_step};
@@ -8,6 +8,7 @@ ghost use Rattle.engine.specs.Table.{engine_of};
 
 use super::Table;
 use crate::shadow::{Shadow, has_written};
+use crate::slot::Slot;
 use pages::WriteEntry;
 
 // What a shadow that may not be there has written.
@@ -22,8 +23,7 @@ fn own_of(entry: &Option<Shadow>) -> &[WriteEntry]
 
 impl Table {
     // Whether slot u's leading shadow has written the page.
-    pub(crate) fn lead_has_written(&self, u: usize, page: u32) -> bool
-        requires { u < 8 }
+    pub(crate) fn lead_has_written(&self, u: Slot, page: u32) -> bool
         ensures { result ≡ stands_on (lead_writes (engine_of self.now) u) page }
     {
         let lead = self.shadow(u, u);
@@ -31,19 +31,15 @@ impl Table {
     }
 
     // Whether slot t has a shadow for u that has read the page.
-    fn shadow_has_read(&self, t: usize, u: usize, page: u32) -> bool
-        requires { (t < 8) × (u < 8) }
+    fn shadow_has_read(&self, t: Slot, u: Slot, page: u32) -> bool
         ensures { result ≡ has_read (reads_of (shadow_at (engine_of self.now) t u)) page }
     {
-        match self.shadow(t, u) {
-            Some(shadow) => shadow.has_read(page),
-            None => false,
-        }
+        self.shadow(t, u)
+            .is_some_and(|shadow| shadow.has_read(page))
     }
 
     // The furthest of slot t's shadows that have read nothing u's leading shadow has written.
-    fn furthest_for(&self, t: usize, u: usize) -> Option<Shadow>
-        requires { (t < 8) × (u < 8) }
+    fn furthest_for(&self, t: Slot, u: Slot) -> Option<Shadow>
         ensures { option_map stand_of result ≡ furthest_of (clean (engine_of self.now) u) t (row_at (engine_of self.now) t) }
     {
         let lead = self.shadow(u, u);
@@ -51,16 +47,14 @@ impl Table {
     }
 
     // Whether slot t has a shadow for u, or may have one more.
-    fn has_room(&self, t: usize, u: usize) -> bool
-        requires { (t < 8) × (u < 8) }
+    fn has_room(&self, t: Slot, u: Slot) -> bool
         ensures { result ≡ has_room (engine_of self.now) t u }
     {
         self.shadow(t, u).is_some() || self.row(t).count() < self.allowance
     }
 
     // Slot t's shadow for u goes on from t's furthest that is clean for u, where there is room for it.
-    pub(crate) fn account(&mut self, t: usize, u: usize)
-        requires { (t < 8) × (u < 8) }
+    pub(crate) fn account(&mut self, t: Slot, u: Slot)
         ensures { engine_of self.new ≡ accounted (engine_of self.old) t u }
     {
         if self.has_room(t, u) {
@@ -70,15 +64,13 @@ impl Table {
     }
 
     // Whether a store read of the page by t's leading shadow conflicts with slot u.
-    fn read_conflict(&self, t: usize, page: u32, u: usize) -> bool
-        requires { (t < 8) × (u < 8) }
+    fn read_conflict(&self, t: Slot, page: u32, u: Slot) -> bool
         ensures { result ≡ read_conflict (engine_of self.now) t page u }
     {
         u != t && self.is_open(u) && self.shadow(t, u).is_none() && self.lead_has_written(u, page)
     }
 
-    fn account_read(&mut self, t: usize, page: u32, u: usize)
-        requires { (t < 8) × (u < 8) }
+    fn account_read(&mut self, t: Slot, page: u32, u: Slot)
         ensures { engine_of self.new ≡ account_read (engine_of self.old) t page u }
     {
         if self.read_conflict(t, page, u) {
@@ -87,18 +79,16 @@ impl Table {
     }
 
     // Accounts for every slot that a store read of the page by t's leading shadow conflicts with.
-    pub(crate) fn account_reads(&mut self, t: usize, page: u32)
-        requires { t < 8 }
+    pub(crate) fn account_reads(&mut self, t: Slot, page: u32)
         ensures { engine_of self.new ≡ account_reads (engine_of self.old) t page slots }
     {
-        for u in 0..8 {
+        for u in Slot::all() {
             self.account_read(t, page, u);
         }
     }
 
     // Whether a write of the page by t's leading shadow conflicts with slot v, which has not guessed it.
-    fn write_conflict(&self, t: usize, page: u32, v: usize) -> bool
-        requires { (t < 8) × (v < 8) }
+    fn write_conflict(&self, t: Slot, page: u32, v: Slot) -> bool
         ensures { result ≡ write_conflict (engine_of self.now) t page v }
     {
         v != t
@@ -107,8 +97,7 @@ impl Table {
             && (self.shadow(v, t).is_none() || self.shadow_has_read(v, t, page))
     }
 
-    fn account_write(&mut self, t: usize, page: u32, v: usize)
-        requires { (t < 8) × (v < 8) }
+    fn account_write(&mut self, t: Slot, page: u32, v: Slot)
         ensures { engine_of self.new ≡ account_write (engine_of self.old) t page v }
     {
         if self.write_conflict(t, page, v) {
@@ -117,18 +106,16 @@ impl Table {
     }
 
     // Accounts in every slot that a write of the page by t's leading shadow conflicts with.
-    pub(crate) fn account_writes(&mut self, t: usize, page: u32)
-        requires { t < 8 }
+    pub(crate) fn account_writes(&mut self, t: Slot, page: u32)
         ensures { engine_of self.new ≡ account_writes (engine_of self.old) t page slots }
     {
-        for v in 0..8 {
+        for v in Slot::all() {
             self.account_write(t, page, v);
         }
     }
 
     // Before a step of t's leading shadow that is a store read of this page, or none.
-    pub(crate) fn before_step(&mut self, t: usize, page: Option<u32>)
-        requires { t < 8 }
+    pub(crate) fn before_step(&mut self, t: Slot, page: Option<u32>)
         ensures { engine_of self.new ≡ before_step (engine_of self.old) t page }
     {
         if let Some(page) = page {
@@ -137,8 +124,7 @@ impl Table {
     }
 
     // After a step of t's leading shadow that wrote this page, or none.
-    pub(crate) fn after_step(&mut self, t: usize, page: Option<u32>)
-        requires { t < 8 }
+    pub(crate) fn after_step(&mut self, t: Slot, page: Option<u32>)
         ensures { engine_of self.new ≡ after_step (engine_of self.old) t page }
     {
         if let Some(page) = page {

@@ -12,22 +12,22 @@ use Rattle.engine.proofs.alone.run_to_end.Goals as goal
 
 pub loop-step-init : goal.loop-step-init
 loop-step-init g c =
-    let ar = g.A.Arithmetic.meaning c.args.arithmetic.now in
-    let pages = g.R.Reader.pages c.args.reader.now in
+    let ar = g.A.Arithmetic.meaning c.args.machine.now.arithmetic.now in
+    let pages = g.R.Reader.pages c.args.machine.now.reader.now in
     subst (λ s. Leads ar (steps_of c.args.script.now) pages start s) (sym c.start-shadow.ensures) here
 
 pub advance-requires : goal.advance-requires
 advance-requires g c =
-    let ar = g.A.Arithmetic.meaning c.args.arithmetic.now in
-    let pages = g.R.Reader.pages c.args.reader.now in
+    let ar = g.A.Arithmetic.meaning c.args.machine.now.arithmetic.now in
+    let pages = g.R.Reader.pages c.args.machine.now.reader.now in
     let script = steps_of c.args.script.now in
     let at = looked_up script c.step.result c.loop-step.shadow.step (Some c.in-Some.step) c.step.ensures c.in-Some.ensures in
     next-room ar script pages (stand_of c.loop-step.shadow) c.in-Some.step c.requires.few c.loop-step.invariant at
 
 pub loop-step-smaller : goal.loop-step-smaller
 loop-step-smaller g c =
-    let ar = g.A.Arithmetic.meaning c.args.arithmetic.now in
-    let pages = g.R.Reader.pages c.args.reader.now in
+    let ar = g.A.Arithmetic.meaning c.args.machine.now.arithmetic.now in
+    let pages = g.R.Reader.pages c.args.machine.now.reader.now in
     let script = steps_of c.args.script.now in
     let s = c.loop-step.shadow in
     let t = c.advance.new.shadow in
@@ -40,8 +40,8 @@ loop-step-smaller g c =
 
 pub loop-step-preserved : goal.loop-step-preserved
 loop-step-preserved g c =
-    let ar = g.A.Arithmetic.meaning c.args.arithmetic.now in
-    let pages = g.R.Reader.pages c.args.reader.now in
+    let ar = g.A.Arithmetic.meaning c.args.machine.now.arithmetic.now in
+    let pages = g.R.Reader.pages c.args.machine.now.reader.now in
     let script = steps_of c.args.script.now in
     let s = c.loop-step.shadow in
     let t = c.advance.new.shadow in
@@ -52,8 +52,8 @@ loop-step-preserved g c =
 
 pub returns-in_err-advance : goal.returns-in_err-advance
 returns-in_err-advance g c =
-    let ar = g.A.Arithmetic.meaning c.args.arithmetic.now in
-    let pages = g.R.Reader.pages c.args.reader.now in
+    let ar = g.A.Arithmetic.meaning c.args.machine.now.arithmetic.now in
+    let pages = g.R.Reader.pages c.args.machine.now.reader.now in
     let script = steps_of c.args.script.now in
     let at = looked_up script c.step.result c.loop-step.shadow.step (Some c.in-Some.step) c.step.ensures c.in-Some.ensures in
     let p = err_from_is_err_and {Q = λ f. f ≡ c.in_err-advance.field-0.0} c.from_residual.result c.from_residual.ensures.1 in
@@ -61,8 +61,8 @@ returns-in_err-advance g c =
 
 pub returns : goal.returns
 returns g c =
-    let ar = g.A.Arithmetic.meaning c.args.arithmetic.now in
-    let pages = g.R.Reader.pages c.args.reader.now in
+    let ar = g.A.Arithmetic.meaning c.args.machine.now.arithmetic.now in
+    let pages = g.R.Reader.pages c.args.machine.now.reader.now in
     let script = steps_of c.args.script.now in
     let s = stand_of c.loop-step.shadow in
     let none = looked_up script c.step.result c.loop-step.shadow.step None c.step.ensures c.in_default.ensures in (

@@ -1,11 +1,12 @@
-use Rattle.engine.proofs.Lists.{passed_more, placed_here, placed_nowhere}
+use Rattle.std.proofs.Common.{◌≡◌, eqb, sym, rules}
+use Rattle.std.proofs.lemmas.Iterator.{YieldsList-from_slice}
+use Rattle.std.proofs.lemmas.Iterator.Search.{position_from_yields_List}
+use Rattle.std.specs.List.{position}
+use Rattle.engine.proofs.Lists.{placed}
 use Rattle.engine.proofs.shadow.place.Goals as goal
-
-pub loop-i-preserved : goal.loop-i-preserved
-loop-i-preserved c = passed_more c.args.own.now c.args.page c.loop-i.i c.loop-i-test.true c.if-entry-page.false c.loop-i.invariant
-
-pub returns-then-entry-page : goal.returns-then-entry-page
-returns-then-entry-page c = placed_here c.args.own.now c.args.page c.loop-i.i c.loop-i-test.true c.if-entry-page.true c.loop-i.invariant
+use borrow.Author.Tests.{tests}
 
 pub returns : goal.returns
-returns c = placed_nowhere c.args.own.now c.args.page c.loop-i.i c.loop-i-test.false c.loop-i.invariant
+returns c =
+    let found : c.position.result ≡ position (λ e. eqb e.page c.args.page) c.args.own.now = position_from_yields_List (λ e. eqb e.page c.args.page) _ _ c.position.result c.position.ensures.ran (YieldsList-from_slice c.args.own.now cc) (λ x b q k. search (rules, tests)) in
+    placed c.args.page c.args.own.now c.position.result (sym found)

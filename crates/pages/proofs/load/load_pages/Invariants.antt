@@ -6,5 +6,8 @@ abbrev pub invariant-loop-page : goal.invariant-loop-page
 invariant-loop-page g l =
     let from = g.R.Reader.pages l.from in
     let into = g.S.Reader.pages l.into in
-    (length into ≡ length from) × (take l.page into ≡ take l.page from)
-    × Chain g.S.Store.wrote l.initial.into (numbered 0 (take l.page from)) l.into
+    record {
+      long : length into ≡ length from;
+      filled : take l.page into ≡ take l.page from;
+      puts : Chain g.S.Store.wrote l.initial.into (numbered 0 (take l.page from)) l.into;
+    }

@@ -1,6 +1,6 @@
 use Rattle.std.proofs.Common.{◌≡◌, false, [], Ok, sym, ◌∙◌}
 use Rattle.script.specs.View.{steps_of}
-use Rattle.serial.specs.declared.fault.Answer.TheVariants.{Begun}
+use Rattle.serial.specs.declared.fault.Accepted.TheVariants.{Begun}
 use Rattle.serial.specs.Rules.{begin, begun, is_open}
 use Rattle.serial.proofs.Outcomes.{begin_by}
 use Rattle.engine.specs.Table.{engine_of}
@@ -15,6 +15,6 @@ invariant_of-self c =
     let is = c.in_ok-t.ensures in
     let free : is_open e t ≡ false = sym c.is_open.ensures ∙ c.if-is_open.false in
     let script = steps_of c.in_ok-steps.steps in
-    kept_by idle (begin t c.args.script.now) c.args.self.now [] [] c.open_slot.new.self (begun e t script) Begun
+    kept_by idle (begin t c.args.script.now) c.args.self.now [] [] c.open_slot.new.self (begun e t script) (Ok Begun)
     (begin_by (state_of c.args.self.now []) t c.args.script.now (Ok script) is.1 free c.in_ok-steps.ensures.rule)
     c.open_slot.ensures

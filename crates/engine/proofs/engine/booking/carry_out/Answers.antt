@@ -1,4 +1,4 @@
-use Rattle.std.proofs.Common.{◌≡◌, ◌+◌, ◌<◌, [], ◌∷◌, ◌++◌, length, get_or, take, drop, sym, ap, ◌∙◌, subst, arith, length-set, drop-set-lt}
+use Rattle.std.proofs.Common.{◌≡◌, ◌+◌, ◌<◌, [], ◌∷◌, ◌++◌, length, get_or, take, drop, sym, ap, ◌∙◌, subst, arith, length-set, length-take, get_or-take, drop-set-lt}
 use Rattle.std.proofs.lemmas.List.{take_more_set, drop-drop}
 use Rattle.pages.specs.Pages.{Chain}
 use Rattle.serial.specs.Rules.{fresh, after, answers, list_put, lists_put}
@@ -21,15 +21,19 @@ loop-i-preserved g c =
     let inv = c.loop-i.invariant in
     let s = state_of c.loop-i.engine (pages c.loop-i.store) in
     let s' = state_of c.call.new.self (pages c.call.new.store) in
-    let l : i < length calls = omega arith in
-    let room : i < length c.loop-i.answers = omega arith in
-    let rule = c.call.ensures.rule in
+    let n = c.min-count.result in
+    let short : i < n = omega (arith, c.loop-i-test.true, length-take n calls) in
+    let l : i < length calls = omega (arith, c.min-count.ensures) in
+    let room : i < length c.loop-i.answers = omega (arith, c.min-count.ensures) in
+    let is : get_or (take n calls) i (SetAllowance 0) ≡ get_or calls i (SetAllowance 0) = get_or-take n calls i (SetAllowance 0) short in
+    let rule = rw is at c.call.ensures.rule in
+    let puts = rw is at c.call.ensures.puts in
     let a = c.call.result in (
       more_state ar first calls i s s' a l inv.0 rule,
       take_more_set c.loop-i.answers i a room ∙ ap (λ xs. xs ++ a ∷ []) inv.1 ∙ sym (more_answers ar first calls i s s' a l inv.0 rule),
       drop-set-lt (i + 1) c.loop-i.answers i a (omega arith) ∙ sym (drop-drop 1 i c.loop-i.answers) ∙ ap (drop 1) inv.2 ∙ drop-drop 1 i c.args.answers.now,
       subst (λ es. Chain g.S.Store.wrote c.args.store.now es c.call.new.store) (more_lists ar first calls i s s' a l inv.0 rule)
-          (chain_then g.S.Store.wrote (lists_put ar (first_calls i calls) first) (list_put (engine_of c.loop-i.engine.table) (call_of (get_or calls i (SetAllowance 0))) a) c.args.store.now c.loop-i.store c.call.new.store inv.3 c.call.ensures.puts),
+          (chain_then g.S.Store.wrote (lists_put ar (first_calls i calls) first) (list_put (engine_of c.loop-i.engine.table) (call_of (get_or calls i (SetAllowance 0))) a) c.args.store.now c.loop-i.store c.call.new.store inv.3 puts),
       length-set c.loop-i.answers i a ∙ inv.4,
     )
 
@@ -40,7 +44,7 @@ returns g c =
     let first = fresh (pages c.args.store.now) in
     let calls = c.args.calls.now in
     let inv = c.loop-i.invariant in
-    let n : c.loop-i.i ≡ c.min-count.result = omega arith in
+    let n : c.loop-i.i ≡ c.min-count.result = omega (arith, c.min-count.ensures, c.loop-i-test.false, length-take c.min-count.result calls) in
     record {
       count = c.min-count.ensures;
       state = inv.0 ∙ ap (λ k. after ar (first_calls k calls) first) n;

@@ -1,30 +1,20 @@
-use Rattle.std.proofs.Common.{◌≡◌, ℕ, ◌+◌, get_or, drop, Some, sym, ◌∙◌, arith}
-use Rattle.std.proofs.lemmas.List.{at_drop_more, at_drop_all}
-use Rattle.std.proofs.lemmas.Bool.{cond-true, cond-false, lt-ltb, le-ltb}
-use Rattle.pages.specs.Pages.{entry}
+use Rattle.std.proofs.Common.{◌≡◌, leb, sym, ◌∙◌, rules}
+use Rattle.std.proofs.lemmas.Iterator.{YieldsList-from_slice, YieldsList-from_map}
+use Rattle.std.proofs.lemmas.Iterator.Adapters.{option_map_id}
+use Rattle.std.proofs.lemmas.Iterator.Search.{find_from_yields_List}
 use Rattle.serial.specs.Rules.{first_off}
-use Rattle.engine.proofs.Offs.{off_inside}
+use Rattle.engine.proofs.Offs.{off_found, off_inside}
 use Rattle.engine.proofs.engine.calls.first_missing.Goals as goal
+use borrow.Author.Tests.{tests}
 
-pub returns-then-entry-size : goal.returns-then-entry-size
-returns-then-entry-size c =
-    let own = c.args.own.now in
-    let i = c.loop-entry.entry-index in
-    let n = c.args.size in
-    record {
-      rule = sym (c.loop-entry.invariant ∙ at_drop_more (first_off n) own i (entry 0 0) c.loop-entry-test.true ∙ cond-false _ (first_off n (drop (i + 1) own)) (Some (get_or own i (entry 0 0)).page) (le-ltb _ n c.if-entry-size.true));
-      inside = λ e. let z : ◌≡◌ {A = ℕ} 0 1 = cc in absurd (omega arith);
-    }
+told : (c : goal.After-find) → c.find.result ≡ first_off c.args.size c.args.own.now
+told c =
+    let pages = YieldsList-from_map _ (λ e. e.page) (YieldsList-from_slice c.args.own.now (search rules)) (search rules) (λ x r q k. search rules) in
+    let found = find_from_yields_List (λ p. leb c.args.size p) _ _ c.find.result c.find.ensures.ran pages (λ x b q k. search (rules, tests)) in
+    sym (option_map_id c.find.result) ∙ found ∙ off_found c.args.size c.args.own.now
 
-pub loop-entry-preserved : goal.loop-entry-preserved
-loop-entry-preserved c =
-    let own = c.args.own.now in
-    let i = c.loop-entry.entry-index in
-    let n = c.args.size in
-    c.loop-entry.invariant ∙ at_drop_more (first_off n) own i (entry 0 0) c.loop-entry-test.true ∙ cond-true _ (first_off n (drop (i + 1) own)) (Some (get_or own i (entry 0 0)).page) (lt-ltb _ n c.if-entry-size.false)
+pub returns-clause-rule : goal.returns-clause-rule
+returns-clause-rule c = told c
 
-pub returns : goal.returns
-returns c =
-    let own = c.args.own.now in
-    let none = c.loop-entry.invariant ∙ at_drop_all (first_off c.args.size) own c.loop-entry.entry-index c.loop-entry-test.false in
-    record { rule = sym none; inside = λ e. off_inside c.args.size own none }
+pub returns-clause-inside : goal.returns-clause-inside
+returns-clause-inside c = λ e. off_inside c.args.size c.args.own.now (sym (told c) ∙ e)

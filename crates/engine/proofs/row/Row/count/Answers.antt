@@ -1,16 +1,12 @@
-use Rattle.std.proofs.Common.{arith}
-use Rattle.std.specs.Option.{option_map}
-use Rattle.serial.specs.Rules.{count}
-use Rattle.engine.specs.View.{stand_of}
-use Rattle.engine.proofs.Rows.{all_at_map, count_more}
+use Rattle.std.proofs.Common.{is_some, ◌∙◌, rules}
+use Rattle.std.proofs.lemmas.Iterator.{YieldsList-from_slice}
+use Rattle.std.proofs.lemmas.Iterator.Consumers.{YieldsList-from_filter, count_from_yields_List}
+use Rattle.engine.proofs.Rows.{count_filtered}
 use Rattle.engine.proofs.row.Row.count.Goals as goal
-
-pub loop-entry-preserved : goal.loop-entry-preserved
-loop-entry-preserved c =
-    count_more c.args.self.now.entries c.loop-entry.entry-index c.loop-entry.n c.tally-n.result c.loop-entry-test.true c.tally-n.ensures c.loop-entry.invariant
+use borrow.Author.Tests.{tests}
 
 pub returns : goal.returns
 returns c =
-    let all = all_at_map (option_map stand_of) count c.args.self.now.entries c.loop-entry.entry-index c.loop-entry-test.false in
-    let i = c.loop-entry.invariant.0 in
-    omega arith
+    let all = c.args.self.now.entries in
+    let there = YieldsList-from_filter _ (λ o. is_some o) (YieldsList-from_slice all (search rules)) (search rules) (λ x b q k. search (rules, tests)) in
+    count_from_yields_List _ c.count.result c.count.ensures.ran there ∙ count_filtered all

@@ -8,5 +8,5 @@ use Rattle.engine.proofs.row.Row.furthest_clean.Given as goal
 
 abbrev pub invariant-loop-entry : goal.invariant-loop-entry
 invariant-loop-entry l =
-    furthest (unread l.list) (option_map stand_of l.best) (drop l.entry-index (view l.all))
-    ≡ furthest_of (unread l.list) l.t (view l.all)
+    furthest (unread l.list) (option_map stand_of l.best) (drop l.entry-index (view l.self.entries))
+    ≡ furthest_of (unread l.list) l.fn.t (view l.self.entries)

@@ -5,4 +5,4 @@ use Rattle.engine.proofs.Rows.{at_map}
 use Rattle.engine.proofs.row.Row.get.Goals as goal
 
 pub returns : goal.returns
-returns c = at_map (option_map stand_of) None c.args.self.now.entries c.args.u
+returns c = rw c.index.ensures.place (at_map (option_map stand_of) None c.args.self.now.entries c.args.u)

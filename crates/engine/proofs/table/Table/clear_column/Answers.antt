@@ -1,16 +1,21 @@
-use Rattle.std.proofs.Common.{ap, ◌∙◌}
+use Rattle.std.proofs.Common.{get_or, refl, ◌∙◌, arith}
 use Rattle.serial.specs.Rules.{cleared}
-use Rattle.engine.specs.Table.{row_of, engine_of, with_rows}
+use Rattle.engine.specs.Table.{script_held, row_held}
 use Rattle.engine.proofs.Rows.{over_more, over_all}
-use Rattle.engine.proofs.Tables.{no_row}
+use Rattle.engine.proofs.Tables.{no_held, with_row, unseen, same_engine}
 use Rattle.engine.proofs.table.Table.clear_column.Goals as goal
 
-pub loop-row-preserved : goal.loop-row-preserved
-loop-row-preserved c =
-    over_more row_of (cleared c.args.t) c.args.self.now.rows c.loop-row.row-index no_row c.loop-row.row-items c.put.new.self c.loop-row-test.true c.loop-row.auto.row-items c.loop-row.invariant
-    c.put.ensures
+pub loop-held-preserved : goal.loop-held-preserved
+loop-held-preserved c =
+    let i = c.loop-held.held-index in
+    let items = c.loop-held.held-items in
+    let h = with_row (get_or items i no_held) c.put.new.self in
+    record {
+      rows = over_more row_held (cleared c.args.t) c.args.self.now.slots i no_held items h (omega arith) c.loop-held.auto.held-items c.loop-held.invariant.rows c.put.ensures;
+      scripts = unseen script_held items i h refl ∙ c.loop-held.invariant.scripts;
+    }
 
 pub returns : goal.returns
 returns c =
-    ap (with_rows (engine_of c.args.self.now))
-    (c.loop-row.invariant ∙ over_all row_of (cleared c.args.t) c.args.self.now.rows c.loop-row.row-index c.loop-row-test.false)
+    same_engine refl c.loop-held.invariant.scripts
+    (c.loop-held.invariant.rows ∙ over_all row_held (cleared c.args.t) c.args.self.now.slots c.loop-held.held-index (omega arith))

@@ -4,4 +4,5 @@ use Rattle.engine.proofs.Tables.{opened}
 use Rattle.engine.proofs.table.Table.open_slot.Goals as goal
 
 pub returns : goal.returns
-returns c = c.put_shadow.ensures ∙ opened c.args.self.now c.args.t c.args.script (stand_of c.start.result) c.start.ensures
+returns c =
+    c.put_shadow.ensures ∙ rw c.index.ensures.place (opened c.args.self.now c.args.t c.args.script (stand_of c.start.result) c.start.ensures)

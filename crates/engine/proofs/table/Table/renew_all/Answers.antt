@@ -1,12 +1,22 @@
-use Rattle.std.proofs.Common.{ap}
-use Rattle.engine.specs.Table.{engine_of, with_rows}
-use Rattle.engine.proofs.Tables.{renewed_more, renewed_all}
+use Rattle.std.proofs.Common.{◌≡◌, get_or, refl, ◌∙◌, arith}
+use Rattle.engine.specs.Table.{script_held}
+use Rattle.engine.proofs.Accounts.{slot_at}
+use Rattle.engine.proofs.Tables.{no_held, with_row, unseen, renewed_more, renewed_all, same_engine}
 use Rattle.engine.proofs.table.Table.renew_all.Goals as goal
 
 pub loop-v-preserved : goal.loop-v-preserved
-loop-v-preserved c = renewed_more c.args.own.now c.args.self.now.rows c.loop-v.all c.loop-v.v c.renew.new.self c.loop-v-test.true c.renew.ensures c.loop-v.invariant
+loop-v-preserved c =
+    let i = c.loop-v.v-index in
+    let is = slot_at c.all-v-items.result i c.v-item.result c.all-v-items.ensures c.loop-v-test.true in
+    let at : c.index.result ≡ i = c.index.ensures.place ∙ is in
+    let renewed = rw (at, is) at c.renew.ensures in
+    record {
+      rows = rw at (renewed_more c.args.own.now c.args.self.now.slots c.loop-v.self.slots i (with_row (get_or c.loop-v.self.slots i no_held) c.renew.new.self) (omega arith) renewed c.loop-v.invariant.rows);
+      scripts = rw at (unseen script_held c.loop-v.self.slots i (with_row (get_or c.loop-v.self.slots i no_held) c.renew.new.self) refl) ∙ c.loop-v.invariant.scripts;
+      allowance = c.loop-v.invariant.allowance;
+    }
 
 pub returns : goal.returns
 returns c =
-    ap (with_rows (engine_of c.args.self.now))
-    (renewed_all c.args.own.now c.args.self.now.rows c.loop-v.v c.loop-v.all c.loop-v-test.false c.loop-v.invariant)
+    same_engine c.loop-v.invariant.allowance c.loop-v.invariant.scripts
+    (renewed_all c.args.own.now c.args.self.now.slots c.loop-v.v-index c.loop-v.self.slots (omega arith) c.loop-v.invariant.rows)

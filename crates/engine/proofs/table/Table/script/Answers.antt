@@ -1,8 +1,7 @@
-use Rattle.std.specs.Option.{option_map}
-use Rattle.std.proofs.Common.{None}
-use Rattle.script.specs.View.{steps_of}
+use Rattle.engine.specs.Table.{script_held}
 use Rattle.engine.proofs.Rows.{at_map}
+use Rattle.engine.proofs.Tables.{no_held}
 use Rattle.engine.proofs.table.Table.script.Goals as goal
 
 pub returns : goal.returns
-returns c = at_map (option_map steps_of) None c.args.self.now.scripts c.args.t
+returns c = rw c.index.ensures.place (at_map script_held no_held c.args.self.now.slots c.args.t)

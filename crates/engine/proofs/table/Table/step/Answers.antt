@@ -2,13 +2,12 @@ use Rattle.engine.proofs.Turns.{row-there, row_room, row_steps}
 use Rattle.engine.proofs.table.Table.step.Goals as goal
 
 pub step-requires : goal.step-requires
-step-requires g c = record {
-  within = c.requires.within.1;
-  there = row-there c.args.self.now c.args.t c.args.u c.requires.there;
-  room = row_room c.args.self.now c.args.t c.args.u c.requires.room;
-}
+step-requires g c =
+    rw c.index.ensures.place
+    (record { there = row-there c.args.self.now c.args.t c.args.u c.requires.there; room = row_room c.args.self.now c.args.t c.args.u c.requires.room })
 
 pub returns : goal.returns
 returns g c =
-    row_steps c.args.self.now c.args.t c.args.u (g.A.Arithmetic.meaning c.args.arithmetic.now) (g.R.Reader.pages c.args.reader.now) c.args.step.now c.step.result c.step.new.self
-    c.step.ensures
+    rw c.index.ensures.place
+    (row_steps c.args.self.now c.args.t c.args.u (g.A.Arithmetic.meaning c.args.machine.now.arithmetic.now) (g.R.Reader.pages c.args.machine.now.reader.now) c.args.step.now c.step.result c.step.new.self
+    (rw c.index.ensures.place at c.step.ensures))

@@ -9,15 +9,14 @@ step-requires g c =
     let m = c.before_step.new.self in
     let s = stand_of c.args.lead.now in
     record {
-      within = (c.requires.within, c.requires.within);
       there = lead_there b m c.args.t c.args.step.now s c.store_read.result c.requires.there c.before_step.ensures;
       room = lead_room b m c.args.t c.args.step.now s c.store_read.result c.requires.there c.before_step.ensures c.requires.room;
     }
 
 pub returns-in_err-step : goal.returns-in_err-step
 returns-in_err-step g c =
-    let ar = g.A.Arithmetic.meaning c.args.arithmetic.now in
-    let pages = g.R.Reader.pages c.args.reader.now in
+    let ar = g.A.Arithmetic.meaning c.args.machine.now.arithmetic.now in
+    let pages = g.R.Reader.pages c.args.machine.now.reader.now in
     let b = c.args.self.now in
     let m = c.before_step.new.self in
     let s = stand_of c.args.lead.now in
@@ -28,8 +27,8 @@ returns-in_err-step g c =
 
 pub returns : goal.returns
 returns g c =
-    let ar = g.A.Arithmetic.meaning c.args.arithmetic.now in
-    let pages = g.R.Reader.pages c.args.reader.now in
+    let ar = g.A.Arithmetic.meaning c.args.machine.now.arithmetic.now in
+    let pages = g.R.Reader.pages c.args.machine.now.reader.now in
     let b = c.args.self.now in
     let m = c.before_step.new.self in
     let s = stand_of c.args.lead.now in
