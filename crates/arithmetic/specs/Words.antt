@@ -1,5 +1,6 @@
 -- What the operations are and what the two delivered arithmetics make of them. Assumes nothing.
-use Rattle.std.specs.Prelude.{ℕ, zero, suc, ◌+◌, ◌-◌, ◌%◌, ◌^◌, max, Some, None, Ok, Err, Option, Result, bit_and, bit_or, bit_xor}
+use Rattle.std.specs.Prelude.{ℕ, zero, suc, ◌+◌, ◌-◌, ◌%◌, ◌^◌, max, Some, None, Option, Result, bit_and, bit_or, bit_xor}
+use Rattle.std.specs.Option.{ok_or}
 use Rattle.arithmetic.specs.declared.Operation.{Operation}
 use Rattle.arithmetic.specs.declared.Operation.TheVariants.{Zero, One, Two}
 use Rattle.arithmetic.specs.declared.UnknownOperation.{UnknownOperation}
@@ -20,12 +21,8 @@ from_number (suc (suc zero)) = Some Two
 from_number (suc (suc (suc n))) = None
 
 -- the operation with a number, or the number that names none
-abbrev pub operation_or : ℕ → Option Operation → Result Operation UnknownOperation
-operation_or n None = Err (record { number = n })
-operation_or n (Some op) = Ok op
-
 abbrev pub operation_told : ℕ → Result Operation UnknownOperation
-operation_told n = operation_or n (from_number n)
+operation_told n = ok_or (from_number n) (record { number = n })
 
 -- counters: 0 is the sum modulo 2^32, 1 the first minus the second modulo 2^32, 2 the larger
 abbrev pub counters : Operation → ℕ → ℕ → ℕ

@@ -38,11 +38,7 @@ impl From<Operation> for u32 {
     ghost from_gives = { λ operation n. n ≡ number operation };
 
     fn from(operation: Operation) -> u32 {
-        match operation {
-            Operation::Zero => 0,
-            Operation::One => 1,
-            Operation::Two => 2,
-        }
+        operation as u32
     }
 }
 

@@ -1,11 +1,10 @@
 -- The engine's invariant, from its ghost fields and back to them. Assumes nothing.
-use Rattle.std.proofs.Common.{◌≡◌, ℕ, ◌<◌, ◌⊎◌, List, Some, None, sym, ap, ◌∙◌, subst, ⊎_elim, arith}
+use Rattle.std.proofs.Common.{◌≡◌, ℕ, List, sym, ap, ◌∙◌, subst}
 use Rattle.serial.specs.Faults.{Answer}
-use Rattle.serial.specs.Machine.{Meaning, Stand}
-use Rattle.serial.specs.Rules.{Engine, Call, does, shadow}
+use Rattle.serial.specs.Machine.{Meaning}
+use Rattle.serial.specs.Rules.{Engine, Call, does}
 use Rattle.serial.specs.Sound.{Eight, AllowanceFits, ClosedBare, OpenLed, WithinAllowance, ForOpen, ScriptsFit, ShadowsFit, SoundEngine}
-use Rattle.serial.proofs.Sound.{does-sound, ok_from}
-use Rattle.serial.proofs.Table.{shadow-within, some_or_none}
+use Rattle.serial.proofs.Sound.{does-sound}
 use Rattle.engine.specs.declared.table.Table.{Table}
 use Rattle.engine.specs.declared.engine.Engine.{Engine as Held}
 use Rattle.engine.specs.Table.{engine_of}
@@ -40,15 +39,3 @@ kept_by ar c e pages pages' t x a h q =
 -- an arithmetic for calls that use none
 abbrev pub idle : Meaning
 idle op a b = 0
-
--- there is no shadow past the eighth slot
-pub none_past : (e : Held) (t u : ℕ) → (7 < t) ⊎ (7 < u) → None ≡ shadow (engine_of e.table) t u
-none_past e t u far =
-    ⊎_elim
-    (λ (o : (s : Stand) × (shadow (engine_of e.table) t u ≡ Some s)).
-    let w = shadow-within (engine_of e.table) (ok_from (engine_of e.table) (whole e)).sized t u o.0 o.1 in
-    let a = w.0 in
-    let b = w.1 in
-    absurd (⊎_elim (λ (h : 7 < t). omega arith) (λ (h : 7 < u). omega arith) far))
-    (λ (o : shadow (engine_of e.table) t u ≡ None). sym o)
-    (some_or_none (shadow (engine_of e.table) t u))

@@ -1,19 +1,13 @@
--- Searches through read sets and own lists. Assumes nothing.
-use Rattle.std.proofs.Common.{◌≡◌, ℕ, zero, suc, ◌+◌, ◌<◌, ◌≤◌, Bool, true, false, ◌||◌, eqb, ltb, List, [], ◌∷◌, length, get_or, drop, Some, None, Option, ap, ◌∙◌, refl, arith}
+-- Searches through own lists. Assumes nothing.
+use Rattle.std.proofs.Common.{◌≡◌, ℕ, zero, suc, ◌<◌, ◌≤◌, Bool, true, false, eqb, ltb, List, [], ◌∷◌, length, get_or, Some, None, Option, ap, ◌∙◌, refl, arith}
 use Rattle.std.specs.List.{position, position_or_len}
-use Rattle.std.proofs.lemmas.List.{at_drop_more}
 use Rattle.std.proofs.lemmas.List.Quantifiers.{position-Some}
 use Rattle.std.proofs.lemmas.List.Sums.{fails_before_first}
-use Rattle.std.proofs.lemmas.Bool.{cond_both, eq-eqb, ne_eqb, cond-true, cond-false, ltb-false, or_left}
+use Rattle.std.proofs.lemmas.Bool.{cond_both, cond-true, cond-false, ltb-false}
 use Rattle.pages.specs.Pages.{entry}
 use Rattle.pages.specs.declared.WriteEntry.{WriteEntry}
-use Rattle.serial.specs.declared.ReadEntry.{ReadEntry}
-use Rattle.serial.specs.Machine.{written, write, has_written, has_read_any}
+use Rattle.serial.specs.Machine.{written, write}
 use Rattle.engine.specs.View.{Placed}
-
--- what stands past the end
-abbrev pub no_read : ReadEntry
-no_read = record { step = 0; page = 0 }
 
 module _ (p : ℕ) where
   abbrev Here : WriteEntry → Bool
@@ -53,24 +47,3 @@ module _ (p : ℕ) where
   pub placed : (es : List WriteEntry) (o : Option ℕ) → position Here es ≡ o → Placed es p o
   placed es None h = placed_nowhere es (let all = past_all es h in λ k m. fails_before_first Here es k (entry 0 0) (omega arith))
   placed es (Some i) h = let f = position-Some Here es i (entry 0 0) h in placed_at es i f.0 f.1 f.2
-
-module _ (es : List WriteEntry) (i p : ℕ) (low : i < length es) where
-  pub has_written_here : (get_or es i (entry 0 0)).page ≡ p → has_written (drop i es) p ≡ true
-  has_written_here h =
-      at_drop_more (λ xs. has_written xs p) es i (entry 0 0) low
-      ∙ or_left (eqb (get_or es i (entry 0 0)).page p) (has_written (drop (i + 1) es) p) (eq-eqb _ _ h)
-
-  pub has_written_past : ((get_or es i (entry 0 0)).page ≡ p → ⊥) → has_written (drop i es) p ≡ has_written (drop (i + 1) es) p
-  has_written_past h =
-      at_drop_more (λ xs. has_written xs p) es i (entry 0 0) low
-      ∙ ap (λ b. b || has_written (drop (i + 1) es) p) (ne_eqb (get_or es i (entry 0 0)).page p h)
-
-module _ (rs : List ReadEntry) (i : ℕ) (low : i < length rs) where
-  pub read_any_here : (es : List WriteEntry) → has_written es (get_or rs i no_read).page ≡ true → has_read_any (drop i rs) es ≡ true
-  read_any_here es h =
-      at_drop_more (λ xs. has_read_any xs es) rs i no_read low
-      ∙ or_left (has_written es (get_or rs i no_read).page) (has_read_any (drop (i + 1) rs) es) h
-
-  pub read_any_past : (es : List WriteEntry) → has_written es (get_or rs i no_read).page ≡ false → has_read_any (drop i rs) es ≡ has_read_any (drop (i + 1) rs) es
-  read_any_past es h =
-      at_drop_more (λ xs. has_read_any xs es) rs i no_read low ∙ ap (λ b. b || has_read_any (drop (i + 1) rs) es) h

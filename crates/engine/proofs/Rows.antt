@@ -1,33 +1,25 @@
 -- What stands in a row, and turns of the loops over it. Assumes nothing.
-use Rattle.std.proofs.Common.{◌≡◌, ℕ, zero, suc, ◌+◌, ◌<◌, ◌≤◌, Bool, true, not, List, [], ◌∷◌, ◌++◌, map, length, get_or, take, drop, set, is_some, Some, None, Option, Result, unwrap_or, sym, refl, ap, ◌∙◌, subst, arith}
+use Rattle.std.proofs.Common.{◌≡◌, ℕ, suc, ◌+◌, ◌<◌, Bool, not, List, [], ◌∷◌, ◌++◌, map, length, get_or, take, drop, set, is_some, Some, None, Option, Result, unwrap_or, sym, refl, ap, ◌∙◌, subst, arith}
 use Rattle.std.specs.List.{filter}
 use Rattle.std.specs.Option.{option_map}
-use Rattle.std.proofs.lemmas.List.{at_drop_more, at_drop_all, length-map, map-set, get_or_default, take_all, drop_all, append-nil, set-get_or}
-use Rattle.std.proofs.lemmas.Bool.{true≢false}
+use Rattle.std.proofs.Math.ListN.{get_or-map}
+use Rattle.std.proofs.lemmas.List.{at_drop_more, length-map, map-set, get_or_default, set-get_or}
 use Rattle.std.proofs.lemmas.List.Edits.{map_over_more}
 use Rattle.pages.specs.declared.StoreFault.{StoreFault}
 use Rattle.script.specs.declared.Step.{Step}
-use Rattle.serial.specs.declared.ReadEntry.{ReadEntry}
-use Rattle.serial.specs.Machine.{Meaning, Stand, start, Taken, moved, off_pages, takes, has_read_any}
+use Rattle.serial.specs.Machine.{Meaning, Stand, start, Taken, moved, off_pages, takes}
 use Rattle.serial.specs.Rules.{Row, better, furthest, furthest_of, any_shadow, count}
+use Rattle.serial.proofs.Conflicts.{read_any_nil}
 use Rattle.engine.specs.declared.shadow.Shadow.{Shadow}
-use Rattle.engine.specs.View.{stand_of, Room, Took}
+use Rattle.engine.specs.View.{stand_of, Took}
 use Rattle.engine.specs.Table.{unread, Lent}
 
 -- a list, seen through a view of each element
 module _ {X Y : Type 0} (f : X → Y) where
-  pub at_map : (d : X) (xs : List X) (i : ℕ) → f (get_or xs i d) ≡ get_or (map f xs) i (f d)
-  at_map d [] i = refl
-  at_map d (x ∷ xs) zero = refl
-  at_map d (x ∷ xs) (suc i) = at_map d xs i
-
   pub more_at_map : {Z : Type 0} (F : List Y → Z) (d : X) (xs : List X) (i : ℕ) → i < length xs → F (drop i (map f xs)) ≡ F (f (get_or xs i d) ∷ drop (i + 1) (map f xs))
   more_at_map F d xs i low =
       at_drop_more F (map f xs) i (f d) (simp length-map low)
-      ∙ ap (λ c. F (c ∷ drop (i + 1) (map f xs))) (sym (at_map d xs i))
-
-  pub all_at_map : {Z : Type 0} (F : List Y → Z) (xs : List X) (i : ℕ) → length xs ≤ i → F (drop i (map f xs)) ≡ F []
-  all_at_map F xs i all = at_drop_all F (map f xs) i (simp length-map all)
+      ∙ ap (λ c. F (c ∷ drop (i + 1) (map f xs))) (get_or-map f xs i d)
 
   -- a loop that puts g of what it sees at each place
   module _ (g : Y → Y) (xs : List X) (i : ℕ) where
@@ -37,15 +29,8 @@ module _ {X Y : Type 0} (f : X → Y) where
         let l : i < length (map f ys) = simp length-map (omega arith) in
         let m : i < length (map f xs) = simp length-map (omega arith) in
         map-set f ys i y
-        ∙ ap (set (map f ys) i) (e ∙ ap g (at_map d ys i))
+        ∙ ap (set (map f ys) i) (e ∙ ap g (sym (get_or-map f ys i d)))
         ∙ map_over_more g (map f xs) (map f ys) i x m inv (get_or_default (map f ys) i (f d) x l)
-
-    pub over_all : length xs ≤ i → map g (take i (map f xs)) ++ drop i (map f xs) ≡ map g (map f xs)
-    over_all all =
-        let l : length (map f xs) ≤ i = simp length-map all in
-        ap (λ cs. map g cs ++ drop i (map f xs)) (take_all i (map f xs) l)
-        ∙ ap (λ cs. map g (map f xs) ++ cs) (drop_all i (map f xs) l)
-        ∙ append-nil (map g (map f xs))
 
 -- an equal test finds the same
 module _ (p q : Stand → Bool) (same : (s : Stand) → p s ≡ q s) where
@@ -57,13 +42,8 @@ module _ (p q : Stand → Bool) (same : (s : Stand) → p s ≡ q s) where
   furthest_same best [] = refl
   furthest_same best (c ∷ cs) = furthest_same (better p best c) cs ∙ ap (λ b. furthest q b cs) (better_same best c)
 
--- no page of the empty list is read
-none_read : (rs : List ReadEntry) → not (has_read_any rs []) ≡ true
-none_read [] = refl
-none_read (r ∷ rs) = none_read rs
-
 pub furthest_any : (t : ℕ) (cs : Row) → furthest_of (unread []) t cs ≡ furthest_of any_shadow t cs
-furthest_any t cs = furthest_same (unread []) any_shadow (λ s. none_read s.reads) None (get_or cs t None ∷ cs)
+furthest_any t cs = furthest_same (unread []) any_shadow (λ s. ap not (read_any_nil s.reads)) None (get_or cs t None ∷ cs)
 
 abbrev pub view : List (Option Shadow) → Row
 view xs = map (option_map stand_of) xs
@@ -77,10 +57,7 @@ count_filtered (Some s ∷ xs) = ap suc (count_filtered xs)
 -- a step of the shadow at a place of the row
 module _ (xs : List (Option Shadow)) (u : ℕ) (s : Shadow) (at : get_or xs u None ≡ Some s) where
   lent_stand : get_or (view xs) u None ≡ Some (stand_of s)
-  lent_stand = sym (at_map (option_map stand_of) None xs u) ∙ ap (option_map stand_of) at
-
-  pub lent_room : Room (unwrap_or (get_or (view xs) u None) start) → Room (stand_of s)
-  lent_room h = subst (λ o. Room (unwrap_or o start)) lent_stand h
+  lent_stand = get_or-map (option_map stand_of) xs u None ∙ ap (option_map stand_of) at
 
   lent_by : (t : Shadow) (k : Taken) (r : Result (Unit {0}) StoreFault) → Took s k r t → Lent (record { entries = xs }) u k r (record { entries = set xs u (Some t) })
   lent_by t (moved e) r h = (h.0, map-set (option_map stand_of) xs u (Some t) ∙ ap (λ x. set (view xs) u (Some x)) h.1)
@@ -91,7 +68,3 @@ module _ (xs : List (Option Shadow)) (u : ℕ) (s : Shadow) (at : get_or xs u No
   lent_step ar pages st t r h =
       subst (λ o. Lent (record { entries = xs }) u (takes ar pages st (unwrap_or o start)) r (record { entries = set xs u (Some t) })) (sym lent_stand)
       (lent_by t (takes ar pages st (stand_of s)) r h)
-
--- a shadow that is there is there
-pub not_there : {A : Type 0} (xs : List (Option Shadow)) (u : ℕ) → is_some (get_or (view xs) u None) ≡ true → get_or xs u None ≡ None → A
-not_there xs u h e = absurd (true≢false (sym h ∙ ap is_some (sym (at_map (option_map stand_of) None xs u)) ∙ ap (λ o. is_some (option_map stand_of o)) e))

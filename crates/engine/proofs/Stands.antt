@@ -8,6 +8,7 @@ use Rattle.script.specs.declared.Register.{Register}
 use Rattle.serial.specs.declared.ReadEntry.{ReadEntry}
 use Rattle.serial.specs.Machine.{Meaning, Steps, Stand, start, written, write, Effect, reading, writing, setting, leaving, effect, with_register, recorded, with_write, moved, off_pages, take_read, take_effect}
 use Rattle.serial.specs.Laws.{Next, Leads, here, more}
+use Rattle.serial.proofs.Steps.{off_moved}
 use Rattle.serial.proofs.Runs.{stepped}
 use Rattle.serial.proofs.Sound.{length-write}
 use Rattle.engine.specs.View.{Room}
@@ -23,9 +24,6 @@ pub inside_at : (n : ℕ) (es : List WriteEntry) (i : ℕ) (d : WriteEntry) → 
 inside_at n [] i d h l = absurd (omega arith)
 inside_at n (e ∷ es) zero d h l = h.0
 inside_at n (e ∷ es) (suc i) d h l = inside_at n es i d h.1 (omega arith)
-
-off_moved : (p : ℕ) (t : Stand) {A : Type 0} → off_pages p ≡ moved t → A
-off_moved p t e = let z : ◌≡◌ {A = ℕ} 0 1 = cc in absurd (omega arith)
 
 -- a shadow has at most one read and one page on its list for each step behind it, and every page that it has written
 -- is there

@@ -1,7 +1,9 @@
 -- The rows and scripts of a table, and turns of the loops over them. Assumes nothing.
-use Rattle.std.proofs.Common.{◌≡◌, ℕ, zero, suc, ◌+◌, ◌<◌, ◌≤◌, Bool, List, [], ◌∷◌, ◌++◌, map, length, get_or, take, drop, set, is_some, Some, None, Option, sym, refl, ap, ◌∙◌, add-one, arith}
+use Rattle.std.proofs.Common.{◌≡◌, ℕ, zero, suc, ◌+◌, ◌<◌, Bool, List, [], ◌∷◌, ◌++◌, map, length, get_or, take, drop, set, is_some, Some, None, Option, sym, refl, ap, ◌∙◌, add-one, arith}
 use Rattle.std.specs.List.{find, range_with_len}
-use Rattle.std.proofs.lemmas.List.{length-map, map-set, set-get_or, take_all, drop_all, append-nil}
+use Rattle.std.proofs.Math.ListN.{get_or-map}
+use Rattle.std.proofs.Math.Seq.{map-set_same}
+use Rattle.std.proofs.lemmas.List.{length-map, map-set}
 use Rattle.std.proofs.lemmas.Bool.{cond-true, cond-false}
 use Rattle.pages.specs.declared.WriteEntry.{WriteEntry}
 use Rattle.script.specs.declared.Script.{Script}
@@ -13,7 +15,6 @@ use Rattle.engine.specs.declared.row.Row.{Row}
 use Rattle.engine.specs.declared.table.Held.{Held}
 use Rattle.engine.specs.declared.table.Table.{Table}
 use Rattle.engine.specs.Table.{row_of, script_held, row_held, engine_of, without_column}
-use Rattle.engine.proofs.Rows.{at_map}
 
 -- what stands past the last slot
 abbrev pub no_held : Held
@@ -29,21 +30,16 @@ with_script h x = record { script = x; row = h.row }
 pub same_engine : {a b : ℕ} {s q : List (Option Steps)} {x y : List rules.Row} → a ≡ b → s ≡ q → x ≡ y → ◌≡◌ {A = Engine} (record { allowance = a; scripts = s; shadows = x }) (record { allowance = b; scripts = q; shadows = y })
 same_engine p q r = λ i. record { allowance = p i; scripts = q i; shadows = r i }
 
--- a change of a slot that a view does not see
-pub unseen : {X : Type 0} (f : Held → X) (xs : List Held) (t : ℕ) (h : Held) → f h ≡ f (get_or xs t no_held) → map f (set xs t h) ≡ map f xs
-unseen f xs t h same =
-    map-set f xs t h ∙ ap (set (map f xs) t) (same ∙ at_map f no_held xs t) ∙ set-get_or (map f xs) t (f no_held)
-
 pub row-set : (b : Table) (t : ℕ) (x : Row) (y : List (Option Stand)) → row_of x ≡ y → engine_of (record { allowance = b.allowance; slots = set b.slots t (with_row (get_or b.slots t no_held) x) }) ≡ record { allowance = b.allowance; scripts = map script_held b.slots; shadows = set (map row_held b.slots) t y }
 row-set b t x y e =
     let h = with_row (get_or b.slots t no_held) x in
-    same_engine refl (unseen script_held b.slots t h refl) (map-set row_held b.slots t h ∙ ap (set (map row_held b.slots) t) e)
+    same_engine refl (map-set_same script_held b.slots t h no_held refl) (map-set row_held b.slots t h ∙ ap (set (map row_held b.slots) t) e)
 
 pub opened : (b : Table) (t : ℕ) (script : Script) (s : Stand) → s ≡ start → with_shadow (engine_of (record { allowance = b.allowance; slots = set b.slots t (with_script (get_or b.slots t no_held) (Some script)) })) t t (Some s) ≡ begun (engine_of b) t (steps_of script)
 opened b t script s e =
     let h = with_script (get_or b.slots t no_held) (Some script) in
     ap (λ q. with_shadow (record { allowance = b.allowance; scripts = q; shadows = map row_held (set b.slots t h) }) t t (Some s)) (map-set script_held b.slots t h)
-    ∙ ap (λ q. with_shadow (record { allowance = b.allowance; scripts = set (map script_held b.slots) t (Some (steps_of script)); shadows = q }) t t (Some s)) (unseen row_held b.slots t h refl)
+    ∙ ap (λ q. with_shadow (record { allowance = b.allowance; scripts = set (map script_held b.slots) t (Some (steps_of script)); shadows = q }) t t (Some s)) (map-set_same row_held b.slots t h no_held refl)
     ∙ ap (λ x. with_shadow (record { allowance = b.allowance; scripts = set (map script_held b.slots) t (Some (steps_of script)); shadows = map row_held b.slots }) t t (Some x)) e
 
 pub closed_by : (b m : Table) (t : ℕ) (h : Held) → engine_of m ≡ without_column (engine_of b) t → script_held h ≡ None → row_held h ≡ no_shadows → engine_of (record { allowance = m.allowance; slots = set m.slots t h }) ≡ closed (engine_of b) t (map row_held b.slots)
@@ -68,19 +64,12 @@ module _ (own : List WriteEntry) where
     abbrev pub Renewed : List Held → Type 0
     Renewed ys = map row_held ys ≡ renew own 0 (take i (map row_held xs)) ++ drop i (map row_held xs)
 
-    pub renewed_all : (ys : List Held) → length xs ≤ i → Renewed ys → map row_held ys ≡ renew own 0 (map row_held xs)
-    renewed_all ys all inv =
-        let l : length (map row_held xs) ≤ i = simp length-map all in
-        inv ∙ ap (λ cs. renew own 0 cs ++ drop i (map row_held xs)) (take_all i (map row_held xs) l)
-        ∙ ap (λ cs. renew own 0 (map row_held xs) ++ cs) (drop_all i (map row_held xs) l)
-        ∙ append-nil (renew own 0 (map row_held xs))
-
   pub renewed_more : (xs ys : List Held) (i : ℕ) (y : Held) → i < length xs → row_held y ≡ renewed own i (row_held (get_or ys i no_held)) → Renewed xs i ys → Renewed xs (i + 1) (set ys i y)
   renewed_more xs ys i y low e inv =
       let l : i < length (map row_held xs) = simp length-map low in
       let z : 0 + i ≡ i = omega arith in
       map-set row_held ys i y
-      ∙ ap (set (map row_held ys) i) (e ∙ ap (renewed own i) (at_map row_held no_held ys i))
+      ∙ ap (set (map row_held ys) i) (e ∙ ap (renewed own i) (sym (get_or-map row_held ys i no_held)))
       ∙ ap (λ rs. set rs i (renewed own i (get_or rs i []))) inv
       ∙ ap (λ n. set (renew own 0 (take i (map row_held xs)) ++ drop i (map row_held xs)) i (renewed own n (get_or (renew own 0 (take i (map row_held xs)) ++ drop i (map row_held xs)) i []))) (sym z)
       ∙ renewed-turn 0 (map row_held xs) i l

@@ -1,7 +1,7 @@
 -- Steps that a shadow in the table takes. Assumes nothing.
-use Rattle.std.proofs.Common.{◌≡◌, ℕ, Bool, true, false, cond, eqb, ltb, List, [], map, length, get_or, set, is_some, Some, None, Ok, Err, Option, Result, unwrap_or, sym, refl, ap, ◌∙◌, subst, arith}
+use Rattle.std.proofs.Common.{◌≡◌, ℕ, Bool, true, false, cond, ltb, List, [], map, length, get_or, set, is_some, Some, None, Ok, Err, Option, Result, unwrap_or, sym, refl, ap, ◌∙◌, subst, arith}
+use Rattle.std.proofs.Math.ListN.{get_or-map}
 use Rattle.std.proofs.lemmas.List.{set-get_or}
-use Rattle.std.proofs.lemmas.Bool.{cond-true, eq-eqb}
 use Rattle.pages.specs.Pages.{fault_at}
 use Rattle.pages.specs.declared.StoreFault.{StoreFault}
 use Rattle.script.specs.declared.Step.{Step}
@@ -13,8 +13,7 @@ use Rattle.serial.specs.Rules.{Engine, shadow, with_shadow, before_step, after_s
 use Rattle.engine.specs.declared.row.Row.{Row}
 use Rattle.engine.specs.declared.table.Table.{Table}
 use Rattle.engine.specs.View.{Room}
-use Rattle.engine.specs.Table.{row_of, row_held, engine_of, Lent, page_needed, page_needed_by, checked, lead_takes, shadow_takes, Stepped}
-use Rattle.engine.proofs.Rows.{at_map}
+use Rattle.engine.specs.Table.{row_of, row_held, engine_of, Lent, page_needed, page_needed_by, checked, lead_takes, Stepped}
 use Rattle.engine.proofs.Tables.{no_held, with_row, row-set}
 use Rattle.engine.proofs.Accounts.{before_keeps}
 
@@ -24,13 +23,10 @@ module _ (b : Table) (t u : ℕ) where
   with_step x = record { allowance = b.allowance; slots = set b.slots t (with_row (get_or b.slots t no_held) x) }
 
   same_row : row_of (get_or b.slots t no_held).row ≡ get_or (map row_held b.slots) t []
-  same_row = at_map row_held no_held b.slots t
+  same_row = sym (get_or-map row_held b.slots t no_held)
 
   pub row-there : is_some (shadow (engine_of b) t u) ≡ true → is_some (get_or (row_of (get_or b.slots t no_held).row) u None) ≡ true
   row-there h = ap (λ r. is_some (get_or r u None)) same_row ∙ h
-
-  pub row_room : Room (unwrap_or (shadow (engine_of b) t u) start) → Room (unwrap_or (get_or (row_of (get_or b.slots t no_held).row) u None) start)
-  row_room h = subst (λ r. Room (unwrap_or (get_or r u None) start)) (sym same_row) h
 
   row_stepped : (k : Taken) (r : Result (Unit {0}) StoreFault) (x : Row) → Lent (get_or b.slots t no_held).row u k r x → Stepped b (λ e. with_shadow (engine_of b) t u (Some e)) k r (with_step x)
   row_stepped (moved e) r x h = (h.0, row-set b t x _ (h.1 ∙ ap (λ q. set q u (Some e)) same_row))
@@ -108,8 +104,3 @@ module _ (b m : Table) (t : ℕ) (st : Step) (s : Stand) (o : Option ℕ) (there
         ∙ ap (after_step (with_shadow (before_step (engine_of b) t (store_read (Some st) s)) t t (Some e)) t) write,
   )
   lead_moved (off_pages p) r x y ok w read h was after write = ok_not_err r ok (fault_at p) was h.0
-
-pub as_lead : (b x : Table) (t u : ℕ) (st : Step) (s : Stand) (k : Taken) (r : Result (Unit {0}) StoreFault) → u ≡ t → Stepped b (lead_takes (engine_of b) t st s) k r x → Stepped b (shadow_takes (engine_of b) t u st s) k r x
-as_lead b x t u st s (moved e) r same h =
-    (h.0, h.1 ∙ sym (cond-true (eqb u t) (lead_takes (engine_of b) t st s e) (with_shadow (engine_of b) t u (Some e)) (eq-eqb u t same)))
-as_lead b x t u st s (off_pages p) r same h = h

@@ -67,15 +67,6 @@ fn run_to_end<R: Reader, A: Arithmetic>(
     Ok(shadow)
 }
 
-// Puts a word to a page that the store has.
-fn put_entry<S: Store>(entry: WriteEntry, store: &mut S)
-    requires { entry.page < length (S.Reader.pages store.old) }
-    ensures pages { S.Reader.pages store.new ≡ slice_set (S.Reader.pages store.old) entry.page entry.word }
-    ensures wrote { S.Store.wrote store.old entry.page entry.word store.new }
-{
-    let _ = store.put(entry.page, entry.word);
-}
-
 // Puts an own list to the store, in list order. Its pages are all below the store's size, so no put is refused.
 pub(crate) fn put_all<S: Store>(own: &[WriteEntry], store: &mut S)
     requires { Inside (length (S.Reader.pages store.old)) own.now }
@@ -83,7 +74,7 @@ pub(crate) fn put_all<S: Store>(own: &[WriteEntry], store: &mut S)
     ensures chain { Chain S.Store.wrote store.old own.now store.new }
 {
     for entry in own {
-        put_entry(*entry, store);
+        store.put(entry.page, entry.word).unwrap();
     }
 }
 

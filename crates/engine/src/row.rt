@@ -8,14 +8,14 @@ ghost use Rattle.engine.specs.Table.{row_of, unread, Lent};
 
 use crate::machine::Machine;
 use crate::shadow::Shadow;
-use crate::slot::Slot;
+use crate::slot::{SLOTS, Slot};
 use arithmetic::Arithmetic;
 use pages::{Reader, StoreFault, WriteEntry};
 use script::Step;
 
 #[derive(Clone, Copy)]
 pub struct Row {
-    entries: [Option<Shadow>; 8],
+    entries: [Option<Shadow>; SLOTS],
 }
 
 fn is_ahead(shadow: &Shadow, best: Option<Shadow>) -> bool
@@ -46,7 +46,9 @@ impl Row {
     pub(crate) fn new() -> Row
         ensures { row_of result ≡ no_shadows }
     {
-        Row { entries: [None; 8] }
+        Row {
+            entries: [None; SLOTS],
+        }
     }
 
     pub(crate) fn get(&self, u: Slot) -> Option<Shadow>
@@ -72,6 +74,7 @@ impl Row {
     pub(crate) fn furthest_clean(&self, t: Slot, list: &[WriteEntry]) -> Option<Shadow>
         ensures { option_map stand_of result ≡ furthest_of (unread list.now) t (row_of self.now) }
     {
+        // A `for`: of `better` only the view of its answer is known, and a fold's proof asks for a function.
         let mut best = better(None, self.get(t), list);
         for entry in &self.entries {
             best = better(best, *entry, list);
@@ -90,7 +93,7 @@ impl Row {
     pub(crate) fn drop_readers(&mut self, own: &[WriteEntry])
         ensures { row_of self.new ≡ remaining own.now (row_of self.old) }
     {
-        // As a slice, whose length a proof keeps.
+        // As a slice, whose length a proof keeps, and no `map`: of `keep` too only the view of its answer is known.
         for entry in &mut self.entries[..] {
             *entry = keep(*entry, own);
         }
@@ -107,7 +110,7 @@ impl Row {
     fn lead_again(&mut self, v: Slot)
         ensures { row_of self.new ≡ slice_set (row_of self.old) v (Some (unwrap_or (furthest_of any_shadow v (row_of self.old)) started)) }
     {
-        let lead = self.furthest(v).unwrap_or(Shadow::start());
+        let lead = self.furthest(v).unwrap_or_else(Shadow::start);
         self.put(v, Some(lead));
     }
 
@@ -133,10 +136,9 @@ impl Row {
         requires room { Room (unwrap_or (slice_index_or (row_of self.old) u None) started) }
         ensures { Lent self.old u (takes (A.Arithmetic.meaning machine.now.arithmetic.now) (R.Reader.pages machine.now.reader.now) step.now (unwrap_or (slice_index_or (row_of self.old) u None) started)) result self.new }
     {
-        if let Some(shadow) = &mut self.entries[u.index()] {
-            shadow.take_step(step, machine)
-        } else {
-            Ok(())
+        match &mut self.entries[u.index()] {
+            Some(shadow) => shadow.take_step(step, machine),
+            None => unreachable!(),
         }
     }
 }

@@ -6,6 +6,9 @@ ghost use Rattle.serial.specs.Rules.{slots};
 use serial::CallFault;
 use std::marker::Model;
 
+// How many slots there are.
+pub(crate) const SLOTS: usize = 8;
+
 // A slot's number, 0 to 7: clauses see the number.
 #[derive(Clone, Copy, PartialEq, Eq, Debug)]
 pub(crate) struct Slot {
@@ -24,7 +27,7 @@ impl Model for Slot {
 
 impl Slot {
     // All of them, in rising order.
-    pub(crate) fn all() -> [Slot; 8]
+    pub(crate) fn all() -> [Slot; SLOTS]
         ensures { result ≡ slots }
     {
         [
@@ -54,7 +57,7 @@ impl TryFrom<u32> for Slot {
     ghost try_from_gives = { λ n r. MatchResult r (λ t. (t ≡ n) × (t ≤ 7)) (λ f. (f ≡ NoSlot n) × (7 < n)) };
 
     fn try_from(number: u32) -> Result<Slot, CallFault> {
-        if number < 8 {
+        if number < SLOTS as u32 {
             Ok(Slot {
                 number: number as usize,
             })

@@ -1,21 +1,23 @@
 // The table of shadows: a row for each slot, and the scripts of the open slots.
 ghost use Rattle.std.specs.Prelude.{◌≡◌, find, Some, None};
-ghost use Rattle.std.specs.Option.{option_map};
+ghost use Rattle.std.specs.Option.{option_map, unwrap_or};
 ghost use Rattle.script.specs.View.{steps_of};
+ghost use Rattle.serial.specs.Machine.{start as started};
 ghost use Rattle.serial.specs.Rules.{slots, no_shadows, fresh_engine, script_of, is_open, row as row_at, shadow as shadow_at, with_shadow, begun, closed, renew, committed};
 ghost use Rattle.engine.specs.View.{stand_of};
 ghost use Rattle.engine.specs.Table.{row_of, engine_of, with_allowance, script_held, row_held, with_rows, without_column};
 
 use crate::row::Row;
 use crate::shadow::Shadow;
-use crate::slot::Slot;
+use crate::slot::{SLOTS, Slot};
 use pages::WriteEntry;
 use script::Script;
 
 mod accounting;
 mod turn;
 
-// What a slot holds: the script of its transaction, where it is open, and its row of shadows.
+// What a slot holds: the script of its transaction, where it is open, and its row of shadows. The rules put shadows into any
+// row, so a row is there for a closed slot too.
 #[derive(Clone, Copy)]
 pub struct Held {
     script: Option<Script>,
@@ -25,7 +27,7 @@ pub struct Held {
 #[derive(Clone, Copy)]
 pub struct Table {
     allowance: usize,
-    slots: [Held; 8],
+    slots: [Held; SLOTS],
 }
 
 impl Held {
@@ -48,7 +50,7 @@ impl Table {
     {
         Table {
             allowance: 2,
-            slots: [Held::nothing(); 8],
+            slots: [Held::nothing(); SLOTS],
         }
     }
 
@@ -94,6 +96,13 @@ impl Table {
         ensures { option_map stand_of result ≡ shadow_at (engine_of self.now) t u }
     {
         self.row(t).get(u)
+    }
+
+    // The leading shadow of an open slot.
+    pub(crate) fn lead(&self, t: Slot) -> Shadow
+        ensures { stand_of result ≡ unwrap_or (shadow_at (engine_of self.now) t t) started }
+    {
+        self.shadow(t, t).unwrap_or_else(Shadow::start)
     }
 
     pub(crate) fn put_shadow(&mut self, t: Slot, u: Slot, entry: Option<Shadow>)

@@ -85,22 +85,12 @@ impl fmt::Display for Answer {
                 write!(f, "refused {number}")?;
                 show_list(f, "", values.as_slice())
             }
-            Answer::Accepted(accepted) => show_accepted(f, *accepted),
+            Answer::Accepted(accepted) => write!(f, "{accepted}"),
             Answer::Stands { step, standing } => write!(f, "step {step} {standing}"),
             Answer::Read(Some(read)) => write!(f, "step {} page {}", read.step, read.page),
             Answer::Read(None) => f.write_str("absent"),
             Answer::Shadows { count } => write!(f, "{count} shadows"),
         }
-    }
-}
-
-fn show_accepted<W: fmt::Write>(f: &mut fmt::Formatter<W>, accepted: Accepted) -> fmt::Result {
-    match accepted {
-        Accepted::Allowed => f.write_str("allowed"),
-        Accepted::Begun => f.write_str("begun"),
-        Accepted::Took(turned) => write!(f, "{turned}"),
-        Accepted::Committed(word, pages) => write!(f, "committed {word} {pages}"),
-        Accepted::Aborted => f.write_str("aborted"),
     }
 }
 

@@ -18,7 +18,7 @@ pub(crate) struct Memory {
     pub(crate) words: Vec<u32>,
 }
 
-// Either store, for a scenario that chooses at run time.
+// Either store, for a scenario that chooses at run time. An enum, since the gate refuses functions that hand out a `dyn`.
 #[derive(Drop)]
 pub(crate) enum Chosen<'a> {
     Flat(Flat<'a>),

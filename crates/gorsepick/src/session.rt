@@ -258,6 +258,7 @@ fn is_any_open(engine: &Engine) -> bool {
 }
 
 fn count_shadows(engine: &Engine) -> usize {
+    // A fold, since `sum` would have to be shown to fit.
     (0..SLOTS).fold(0usize, |count, slot| {
         count.saturating_add(count_row(engine, slot))
     })

@@ -66,7 +66,7 @@ fn check(bytes: &[u8]) -> Result<(), ImageFault>
 }
 
 impl<'a> Image<'a> {
-    // `parse`, as the library names it: a `TryFrom` beside it would promise the same twice.
+    // `parse` stays, since hosts call it; a `TryFrom` beside it would promise the same twice.
     pub fn parse(bytes: &'a [u8]) -> Result<Image<'a>, ImageFault>
         ensures { MatchResult result (λ i. (image_fault bytes.now ≡ None) × (image_pages i.bytes.now ≡ image_pages bytes.now)) (λ f. image_fault bytes.now ≡ Some f) }
     {

@@ -77,7 +77,8 @@ impl Layout {
         }
     }
 
-    // One more used entry, after all are carried into the base words where there is no room.
+    // One more used entry, after all are carried into the base words where there is no room. The cuts are those of `find`, by
+    // the methods of slices that are written to.
     fn put(self, words: &mut [u32], page: u32, word: u32)
         requires fits { layout_of words.old ≡ Some self }
         requires low { page < self.size }

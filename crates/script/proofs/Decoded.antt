@@ -1,10 +1,9 @@
 -- Laws of decoding. Assumes nothing.
-use Rattle.std.proofs.Common.{◌≡◌, ℕ, zero, suc, ◌+◌, ◌-◌, ◌*◌, ◌/◌, ◌%◌, ◌<◌, ◌≤◌, Bool, true, false, cond, ◌&&◌, eqb, ltb, leb, List, [], ◌∷◌, ◌++◌, length, get_or, take, drop, is_some, Some, None, Ok, Err, Option, Result, sym, refl, ap, ◌∙◌, subst, ⊎_elim, add-zero, add-suc, add-one, arith, get_or-drop, get_or-take}
+use Rattle.std.proofs.Common.{◌≡◌, ℕ, zero, suc, ◌+◌, ◌-◌, ◌*◌, ◌/◌, ◌%◌, ◌<◌, ◌≤◌, Bool, true, false, cond, ◌&&◌, eqb, leb, List, [], ◌∷◌, ◌++◌, length, is_some, Some, None, Ok, Err, Option, Result, sym, refl, ap, ◌∙◌, subst, ⊎_elim, add-zero, add-suc, add-one, arith}
 use Rattle.std.specs.List.{slice_get}
 use Rattle.std.proofs.iter.runs.Lists.{nth_read, slice_get_within, nth_left, nth_seam}
 use Rattle.std.proofs.lemmas.List.{length_push}
-use Rattle.std.proofs.lemmas.Bool.{and_parts, cond-true, cond-false, cond_both, cases_eq, cases_Bool, eqb-true, leb-true, lt-ltb}
-use Rattle.basics.specs.Trail.{pushed}
+use Rattle.std.proofs.lemmas.Bool.{and_parts, cond-true, cond-false, cond_both, cases_eq, cases_Bool, eqb-true, leb-true}
 use Rattle.arithmetic.specs.Words.{from_number}
 use Rattle.arithmetic.specs.declared.Operation.{Operation}
 use Rattle.script.specs.declared.Register.{Register}
@@ -35,23 +34,7 @@ size_facts bs n =
     (λ h e. let size : steps_told bs ≡ n = cc in subst (Fit bs) size (fit_facts bs h))
     (λ h e. let z : ◌≡◌ {A = ℕ} 0 1 = cc in absurd (omega arith))
 
-pub decoded-unfit : (bs : List ℕ) → size_told bs ≡ None → decoded bs ≡ Err (Unfit (length bs))
-decoded-unfit bs =
-    cond_both (fit bs) (Some (steps_told bs)) None (λ o. o ≡ None → decoded bs ≡ Err (Unfit (length bs)))
-    (λ h e. let z : ◌≡◌ {A = ℕ} 0 1 = cc in absurd (omega arith))
-    (λ h e. cond-false (fit bs) (steps_to bs (steps_told bs)) (Err (Unfit (length bs))) h)
-
--- a code byte, as the slice of them has it
-pub code_there : (bs : List ℕ) (n i : ℕ) → i < n → get_or (take (1 + n - 1) (drop 1 bs)) i 0 ≡ code_at bs i
-code_there bs n i l = get_or-take (1 + n - 1) (drop 1 bs) i 0 (omega arith) ∙ get_or-drop 1 bs i 0
-
 module _ (bs : List ℕ) where
-  -- one turn of the loop over the code bytes
-  pub steps_more : (i : ℕ) (ss : List Step) (s : Step) → i < 16 → length ss ≡ i → steps_to bs i ≡ Ok ss → step_at bs i ≡ Some s → steps_to bs (i + 1) ≡ Ok (pushed 16 ss s)
-  steps_more i ss s l n so here =
-      ap (steps_to bs) (add-one i) ∙ ap (then_step i (step_at bs i)) so ∙ ap (λ o. then_step i o (Ok ss)) here
-      ∙ ap Ok (sym (cond-true (ltb (length ss) 16) (ss ++ s ∷ []) ss (lt-ltb (length ss) 16 (omega arith))))
-
   stays : (n m : ℕ) (f : ScriptFault) → steps_to bs n ≡ Err f → steps_to bs (n + m) ≡ Err f
   stays n zero f h = ap (steps_to bs) (add-zero n) ∙ h
   stays n (suc m) f h = ap (steps_to bs) (add-suc n m) ∙ ap (then_step (n + m) (step_at bs (n + m))) (stays n m f h)
@@ -65,10 +48,6 @@ module _ (bs : List ℕ) where
 
   pub decoded-fit : fit bs ≡ true → decoded bs ≡ steps_to bs (steps_told bs)
   decoded-fit h = cond-true (fit bs) (steps_to bs (steps_told bs)) (Err (Unfit (length bs))) h
-
-pub length-pushed : (ss : List Step) (s : Step) (i : ℕ) → i < 16 → length ss ≡ i → length (pushed 16 ss s) ≡ i + 1
-length-pushed ss s i l n =
-    ap length (cond-true (ltb (length ss) 16) (ss ++ s ∷ []) ss (lt-ltb (length ss) 16 (omega arith))) ∙ length_push ss s ∙ ap (λ k. k + 1) n
 
 -- what a defined step leaves out lies within the script
 small : (i n : ℕ) (x s : Step) → leaves_out x ≡ 0 → Some x ≡ Some s → i < n → i + 1 + leaves_out s ≤ n

@@ -42,7 +42,7 @@ fn step_from(n: usize, i: usize, action: u8, a: u8, b: u8, operand: u32) -> Opti
         3 => Action::WriteIndexed(first, second),
         4 if b == 0 => Action::Set(first),
         5 => Action::Combine(Operation::try_from(operand).ok()?, first, second),
-        6 if 1 <= operand && operand <= 15 && i + 1 + operand as usize <= n => Action::Skip(
+        6 if (1..=15).contains(&operand) && i + 1 + operand as usize <= n => Action::Skip(
             first, second,
         ),
         _ => return None,
@@ -55,11 +55,7 @@ fn fit_size(bytes: &[u8]) -> Option<usize>
     ensures { result ≡ size_told bytes.now }
 {
     let n = *bytes.first()? as usize;
-    if 1 <= n && n <= MOST_STEPS && bytes.len() == 1 + 5 * n {
-        Some(n)
-    } else {
-        None
-    }
+    ((1..=MOST_STEPS).contains(&n) && bytes.len() == 1 + 5 * n).then_some(n)
 }
 
 // Step `i` of fit bytes, where it is defined.

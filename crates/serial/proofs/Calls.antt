@@ -1,6 +1,6 @@
 -- Every call keeps the invariant. Assumes nothing.
 use Rattle.std.proofs.Common.{◌≡◌, ℕ, zero, suc, ◌<◌, ◌≤◌, Bool, true, false, cond, ◌&&◌, eqb, leb, ◌≢◌, List, [], ◌∷◌, length, get_or, set, replicate, is_some, Some, None, Ok, Err, Option, Result, unwrap_or, sym, refl, ap, ◌∙◌, subst, ⊎_elim, arith, length-set, get_or-set_other, get_or-set_same}
-use Rattle.std.proofs.lemmas.Bool.{cases_Bool, cases_eq, cond-true, cond-false, cond_both, and_parts, leb-true, eqb-true, eqb-false, true≢false}
+use Rattle.std.proofs.lemmas.Bool.{cases_Bool, cases_eq, cond-true, cond-false, cond_both, and_parts, leb-true, eqb-true, eqb-false, ne_eqb, true≢false}
 use Rattle.script.specs.Laws.{EndsAtEnd, Decodes}
 use Rattle.script.specs.Script.{decoded}
 use Rattle.script.specs.declared.ScriptFault.{ScriptFault}
@@ -21,6 +21,36 @@ pub count_none : (cs : Row) → ((u : ℕ) → get_or cs u None ≡ None) → co
 count_none [] h = refl
 count_none (None ∷ cs) h = count_none cs (λ u. h (suc u))
 count_none (Some s ∷ cs) h = none_is_some s (sym (h 0))
+
+-- what a slot's begin leaves: its script and its leading shadow at the start; every other place is as it was
+pub record BegunSo (e : Engine) (t : ℕ) (sc : Steps) : Type 0 where
+  pub sized : Sized (begun e t sc)
+  pub script_now : script_of (begun e t sc) t ≡ Some sc
+  pub script_other : (v : ℕ) → v ≢ t → script_of (begun e t sc) v ≡ script_of e v
+  pub lead_now : shadow (begun e t sc) t t ≡ Some start
+  pub place_other : (u : ℕ) → u ≢ t → shadow (begun e t sc) t u ≡ shadow e t u
+  pub shadow_other : (v u : ℕ) → v ≢ t → shadow (begun e t sc) v u ≡ shadow e v u
+  pub row_now : row (begun e t sc) t ≡ set (row e t) t (Some start)
+  pub row_other : (v : ℕ) → v ≢ t → row (begun e t sc) v ≡ row e v
+
+pub begun-so : (e : Engine) → Sized e → (t : ℕ) → t < 8 → (sc : Steps) → BegunSo e t sc
+begun-so e z t t_in sc =
+    let entered : Engine = record { allowance = e.allowance; scripts = set e.scripts t (Some sc); shadows = e.shadows } in
+    let fits : Sized entered = record { scripts = length-set e.scripts t (Some sc) ∙ z.scripts; rows = z.rows; places = z.places } in
+    record {
+      sized = sized_put entered fits t t t_in t_in (Some start);
+      script_now = get_or-set_same e.scripts t (Some sc) None (let n = z.scripts in omega arith);
+      script_other = λ v ne. get_or-set_other e.scripts t v (Some sc) None ne;
+      lead_now = shadow_put entered fits t t t_in t_in (Some start);
+      place_other = shadow_put_place entered fits t t t_in t_in (Some start);
+      shadow_other = shadow_put_row entered fits t t t_in t_in (Some start);
+      row_now = row_put entered fits t t t_in t_in (Some start);
+      row_other = row_put_other entered fits t t t_in t_in (Some start);
+    }
+
+pub not_halted : (b : Bool) → cond b Halted Ready ≡ Ready → b ≡ false
+not_halted true h = let z : ◌≡◌ {A = ℕ} 0 1 = cc in absurd (omega arith)
+not_halted false h = refl
 
 module _ (ar : Meaning) where
   -- the invariant of a state
@@ -88,48 +118,33 @@ module _ (ar : Meaning) where
 
   -- begin
   module _ (pages : List ℕ) (e : Engine) (i : Inv ar pages no_exempt e) (t : ℕ) (t_in : t < 8) (free : script_of e t ≡ None) (sc : Steps) (ends : EndsAtEnd sc) where
-    abbrev entered : Engine
-    entered = record { allowance = e.allowance; scripts = set e.scripts t (Some sc); shadows = e.shadows }
-
-    entered-sized : Sized entered
-    entered-sized = record { scripts = length-set e.scripts t (Some sc) ∙ i.sized.scripts; rows = i.sized.rows; places = i.sized.places }
-
-    script_now : script_of (begun e t sc) t ≡ Some sc
-    script_now = get_or-set_same e.scripts t (Some sc) None (let n = i.sized.scripts in omega arith)
-
-    script_other : (v : ℕ) → v ≢ t → script_of (begun e t sc) v ≡ script_of e v
-    script_other v ne = get_or-set_other e.scripts t v (Some sc) None ne
-
-    lead_now : shadow (begun e t sc) t t ≡ Some start
-    lead_now = shadow_put entered entered-sized t t t_in t_in (Some start)
+    so : BegunSo e t sc
+    so = begun-so e i.sized t t_in sc
 
     place_now : (u : ℕ) → u ≢ t → shadow (begun e t sc) t u ≡ None
-    place_now u ne = shadow_put_place entered entered-sized t t t_in t_in (Some start) u ne ∙ (i.rows t).bare free u
-
-    row_same : (v u : ℕ) → v ≢ t → shadow (begun e t sc) v u ≡ shadow e v u
-    row_same v u ne = shadow_put_row entered entered-sized t t t_in t_in (Some start) v u ne
+    place_now u ne = so.place_other u ne ∙ (i.rows t).bare free u
 
     writes_same : (u : ℕ) → lead_writes (begun e t sc) u ≡ lead_writes e u
     writes_same u =
         ⊎_elim
-        (λ (q : u ≡ t). ap (lead_writes (begun e t sc)) q ∙ ap own_of lead_now ∙ sym (ap own_of ((i.rows t).bare free t)) ∙ ap (lead_writes e) (sym q))
-        (λ (q : u ≡ t → ⊥). ap own_of (row_same u u q))
+        (λ (q : u ≡ t). ap (lead_writes (begun e t sc)) q ∙ ap own_of so.lead_now ∙ sym (ap own_of ((i.rows t).bare free t)) ∙ ap (lead_writes e) (sym q))
+        (λ (q : u ≡ t → ⊥). ap own_of (so.shadow_other u u q))
         (cases_eq u t)
 
     only_start : (u : ℕ) (s : Stand) → shadow (begun e t sc) t u ≡ Some s → (u ≡ t) × (start ≡ s)
     only_start u s h =
         ⊎_elim
-        (λ (q : u ≡ t). (q, let m : Some start ≡ Some s = sym lead_now ∙ ap (shadow (begun e t sc) t) (sym q) ∙ h in cc))
+        (λ (q : u ≡ t). (q, let m : Some start ≡ Some s = sym so.lead_now ∙ ap (shadow (begun e t sc) t) (sym q) ∙ h in cc))
         (λ (q : u ≡ t → ⊥). none_is_some s (sym (place_now u q) ∙ h))
         (cases_eq u t)
 
     begun-own : RowInv ar pages no_exempt (begun e t sc) t
     begun-own = record {
-      few = subst (λ cs. count cs ≤ e.allowance) (sym (row_put entered entered-sized t t t_in t_in (Some start))) (let a = count_add (row e t) t start in let b = count_none (row e t) ((i.rows t).bare free) in omega (arith, i.allowed.0));
-      bare = λ h u. none_is_some sc (sym h ∙ script_now);
-      led = λ z h. ap is_some lead_now;
-      ends = λ z h. let same : sc ≡ z = let m : Some sc ≡ Some z = sym script_now ∙ h in cc in subst EndsAtEnd same ends;
-      for_open = λ u s h. ap (is_open (begun e t sc)) (only_start u s h).0 ∙ ap is_some script_now;
+      few = subst (λ cs. count cs ≤ e.allowance) (sym so.row_now) (let a = count_add (row e t) t start in let b = count_none (row e t) ((i.rows t).bare free) in omega (arith, i.allowed.0));
+      bare = λ h u. none_is_some sc (sym h ∙ so.script_now);
+      led = λ z h. ap is_some so.lead_now;
+      ends = λ z h. let same : sc ≡ z = let m : Some sc ≡ Some z = sym so.script_now ∙ h in cc in subst EndsAtEnd same ends;
+      for_open = λ u s h. ap (is_open (begun e t sc)) (only_start u s h).0 ∙ ap is_some so.script_now;
       reached = λ z u s h q. subst (Leads ar z pages start) (only_start u s q).1 here;
       behind = λ u s l h q. let a = ap (λ y. y.step) (only_start u s h).1 in let b = ap (λ y. y.step) (only_start t l q).1 in omega arith;
       apart = λ u s d h q. absurd (d (only_start u s h).0);
@@ -140,20 +155,20 @@ module _ (ar : Meaning) where
     begun_other v ne =
         let r = i.rows v in
         record {
-          few = subst (λ cs. count cs ≤ e.allowance) (sym (row_put_other entered entered-sized t t t_in t_in (Some start) v ne)) r.few;
-          bare = λ h u. row_same v u ne ∙ r.bare (sym (script_other v ne) ∙ h) u;
-          led = λ z h. ap is_some (row_same v v ne) ∙ r.led z (sym (script_other v ne) ∙ h);
-          ends = λ z h. r.ends z (sym (script_other v ne) ∙ h);
-          for_open = λ u s h. ⊎_elim (λ (q : u ≡ t). ap (is_open (begun e t sc)) q ∙ ap is_some script_now) (λ (q : u ≡ t → ⊥). ap is_some (script_other u q) ∙ r.for_open u s (sym (row_same v u ne) ∙ h)) (cases_eq u t);
-          reached = λ z u s h q. r.reached z u s (sym (script_other v ne) ∙ h) (sym (row_same v u ne) ∙ q);
-          behind = λ u s l h q. r.behind u s l (sym (row_same v u ne) ∙ h) (sym (row_same v v ne) ∙ q);
-          apart = λ u s d h q. ap (has_read_any s.reads) (writes_same u) ∙ r.apart u s d (sym (row_same v u ne) ∙ h) q;
-          covered = λ m u l d h q c. ap is_some (row_same v u ne) ∙ r.covered m u l d (sym (row_same v v ne) ∙ h) q (sym (ap (has_read_any l.reads) (writes_same u)) ∙ c);
+          few = subst (λ cs. count cs ≤ e.allowance) (sym (so.row_other v ne)) r.few;
+          bare = λ h u. so.shadow_other v u ne ∙ r.bare (sym (so.script_other v ne) ∙ h) u;
+          led = λ z h. ap is_some (so.shadow_other v v ne) ∙ r.led z (sym (so.script_other v ne) ∙ h);
+          ends = λ z h. r.ends z (sym (so.script_other v ne) ∙ h);
+          for_open = λ u s h. ⊎_elim (λ (q : u ≡ t). ap (is_open (begun e t sc)) q ∙ ap is_some so.script_now) (λ (q : u ≡ t → ⊥). ap is_some (so.script_other u q) ∙ r.for_open u s (sym (so.shadow_other v u ne) ∙ h)) (cases_eq u t);
+          reached = λ z u s h q. r.reached z u s (sym (so.script_other v ne) ∙ h) (sym (so.shadow_other v u ne) ∙ q);
+          behind = λ u s l h q. r.behind u s l (sym (so.shadow_other v u ne) ∙ h) (sym (so.shadow_other v v ne) ∙ q);
+          apart = λ u s d h q. ap (has_read_any s.reads) (writes_same u) ∙ r.apart u s d (sym (so.shadow_other v u ne) ∙ h) q;
+          covered = λ m u l d h q c. ap is_some (so.shadow_other v u ne) ∙ r.covered m u l d (sym (so.shadow_other v v ne) ∙ h) q (sym (ap (has_read_any l.reads) (writes_same u)) ∙ c);
         }
 
     pub begun_inv : Inv ar pages no_exempt (begun e t sc)
     begun_inv = record {
-      sized = sized_put entered entered-sized t t t_in t_in (Some start);
+      sized = so.sized;
       allowed = i.allowed;
       rows = λ v. ⊎_elim (λ (q : v ≡ t). subst (RowInv ar pages no_exempt (begun e t sc)) (sym q) begun-own) (λ (q : v ≡ t → ⊥). begun_other v q) (cases_eq v t);
     }
@@ -185,17 +200,10 @@ module _ (ar : Meaning) where
       (shadow_moves_inv ar s.pages s.engine g t u sc at to ne script here_now (free ne) h))
       (cases_Bool (eqb u t))
 
-  halts : (b : Bool) (x y : Standing) → cond b Halted Ready ≡ Ready → b ≡ false
-  halts true x y h = let z : ◌≡◌ {A = ℕ} 0 1 = cc in absurd (omega arith)
-  halts false x y h = refl
-
   -- a shadow that is able to try a step does not wait
   ready_free : (e : Engine) (t u : ℕ) (sc : Steps) (at : Stand) → standing e t u sc at ≡ Ready → (u ≡ t → ⊥) → waits e t u sc at ≡ false
   ready_free e t u sc at h ne =
-      halts (waits e t u sc at) Ready Ready (sym (cond-false (eqb u t) (cond (leb (length sc) at.step) AtEnd Ready) (cond (waits e t u sc at) Halted Ready) (other u t ne)) ∙ h)
-    where
-      other : (u t : ℕ) → (u ≡ t → ⊥) → eqb u t ≡ false
-      other u t ne = ⊎_elim (λ (q : eqb u t ≡ true). absurd (ne (eqb-true u t q))) (λ q. q) (cases_Bool (eqb u t))
+      not_halted (waits e t u sc at) (sym (cond-false (eqb u t) (cond (leb (length sc) at.step) AtEnd Ready) (cond (waits e t u sc at) Halted Ready) (ne_eqb u t ne)) ∙ h)
 
   turn_standing_good : (s : State) (t u : ℕ) (sc : Steps) (at : Stand) → Good s → script_of s.engine t ≡ Some sc → shadow s.engine t u ≡ Some at → (o : Standing) → standing s.engine t u sc at ≡ o → Good (turn_standing ar s t u sc at o).0
   turn_standing_good s t u sc at g script here_now AtEnd h = g

@@ -1,7 +1,9 @@
 -- A commit and an abort keep the invariant. Assumes nothing.
 use Rattle.std.proofs.Common.{◌≡◌, ℕ, zero, suc, ◌+◌, ◌<◌, ◌≤◌, true, false, ◌≢◌, List, [], ◌∷◌, map, length, get_or, set, replicate, is_some, Some, None, Option, unwrap_or, sym, refl, ap, ◌∙◌, subst, ⊎_elim, add-zero, zero-add, arith, length-set, get_or-set_other, get_or-set_same}
 use lib.ListN.{length-map}
-use Rattle.std.proofs.lemmas.List.{set_past, get_or_past}
+use Rattle.std.proofs.Math.ListN.{get_or-map}
+use Rattle.std.proofs.lemmas.List.{set_past, get_or_past, length-replicate}
+use Rattle.std.proofs.Math.ListN.{get_or-map}
 use Rattle.std.proofs.lemmas.Bool.{cases_Bool, cases_eq, cases_lt, cond-true, cond-false, cond_both, true≢false, both_ways}
 use Rattle.pages.specs.declared.WriteEntry.{WriteEntry}
 use Rattle.serial.specs.Machine.{Meaning, Steps, Stand, start, has_written, has_read_any}
@@ -9,22 +11,13 @@ use Rattle.serial.specs.Alone.{put_all}
 use Rattle.serial.specs.Laws.{Leads, here}
 use Rattle.serial.specs.Rules.{Row, Engine, no_shadows, script_of, is_open, row, shadow, own_of, lead_writes, furthest_of, any_shadow, count, cleared, closed, kept, remaining, spoils, renewed, renew, committed}
 use Rattle.serial.proofs.Runs.{reached_later, read_lasts, leads-frame, length-put_all, put_all_other}
-use Rattle.serial.proofs.Table.{none_is_some, some_is, some_or_none, Sized, shadow-within, count_add, count_clear, count-remaining, count_dropped, remaining_at, kept_was, kept-unread, furthest_of_among, furthest_of_most, nothing_at}
+use Rattle.serial.proofs.Table.{none_is_some, some_is, some_or_none, Sized, shadow-within, count_add, count_clear, count-remaining, count_dropped, kept_was, kept-unread, furthest_of_among, furthest_of_most, nothing_at}
 use Rattle.serial.proofs.Conflicts.{read_any_nil, read_any_grows, read_any_shrinks, own_grows}
 use Rattle.serial.proofs.Kept.{no_exempt, RowInv, Inv}
-
-map_at : {X : Type 0} (f : X → X) (d : X) → f d ≡ d → (xs : List X) (i : ℕ) → get_or (map f xs) i d ≡ f (get_or xs i d)
-map_at f d h [] i = sym h
-map_at f d h (x ∷ xs) zero = refl
-map_at f d h (x ∷ xs) (suc i) = map_at f d h xs i
 
 count_nothing : (n : ℕ) → count (replicate n None) ≡ 0
 count_nothing zero = refl
 count_nothing (suc n) = count_nothing n
-
-length_nothing : (n : ℕ) → length {A = Option Stand} (replicate n None) ≡ n
-length_nothing zero = refl
-length_nothing (suc n) = ap suc (length_nothing n)
 
 module _ (own : List WriteEntry) where
   renew_at : (n : ℕ) (rows : List Row) (v : ℕ) → get_or (renew own n rows) v [] ≡ renewed own (n + v) (get_or rows v [])
@@ -61,8 +54,8 @@ module _ (own : List WriteEntry) where
   renewed_other : (v : ℕ) (r : Row) (u : ℕ) → u ≢ v → get_or (renewed own v r) u None ≡ kept own (get_or r u None)
   renewed_other v r u ne =
       cond_both (spoils own (get_or r v None)) (set (remaining own r) v _) (remaining own r) (λ cs. get_or cs u None ≡ kept own (get_or r u None))
-      (λ e. get_or-set_other (remaining own r) v u _ None ne ∙ remaining_at own r u)
-      (λ e. remaining_at own r u)
+      (λ e. get_or-set_other (remaining own r) v u _ None ne ∙ get_or-map (kept own) r u None)
+      (λ e. get_or-map (kept own) r u None)
 
 -- what stands in the table after t has committed this list
 module _ (e : Engine) (z : Sized e) (t : ℕ) (t_in : t < 8) (own : List WriteEntry) where
@@ -75,7 +68,7 @@ module _ (e : Engine) (z : Sized e) (t : ℕ) (t_in : t < 8) (own : List WriteEn
   row_other : (v : ℕ) → v ≢ t → row (committed e t own) v ≡ set (renewed own v (row e v)) t None
   row_other v ne =
       get_or-set_other gone_rows t v no_shadows [] ne
-      ∙ map_at (cleared t) [] refl (renew own 0 e.shadows) v
+      ∙ get_or-map (cleared t) (renew own 0 e.shadows) v []
       ∙ ap (cleared t) (renew_at own 0 e.shadows v)
       ∙ ap (λ k. cleared t (renewed own k (row e v))) (zero-add v)
 
@@ -99,7 +92,7 @@ module _ (e : Engine) (z : Sized e) (t : ℕ) (t_in : t < 8) (own : List WriteEn
   lead_stays v l ne h unread =
       lead_at v ne
       ∙ ap (λ cs. get_or cs v None) (cond-false (spoils own (shadow e v v)) _ (remaining own (row e v)) (ap (spoils own) h ∙ unread))
-      ∙ remaining_at own (row e v) v ∙ ap (kept own) h ∙ kept-unread own l unread
+      ∙ get_or-map (kept own) (row e v) v None ∙ ap (kept own) h ∙ kept-unread own l unread
 
   pub lead_renewed : (v : ℕ) (l : Stand) → v ≢ t → shadow e v v ≡ Some l → has_read_any l.reads own ≡ true
       → shadow (committed e t own) v v ≡ Some (unwrap_or (furthest_of any_shadow v (remaining own (row e v))) start)
@@ -113,14 +106,14 @@ module _ (e : Engine) (z : Sized e) (t : ℕ) (t_in : t < 8) (own : List WriteEn
   lead_none v ne h =
       lead_at v ne
       ∙ ap (λ cs. get_or cs v None) (cond-false (spoils own (shadow e v v)) _ (remaining own (row e v)) (ap (spoils own) h))
-      ∙ remaining_at own (row e v) v ∙ ap (kept own) h
+      ∙ get_or-map (kept own) (row e v) v None ∙ ap (kept own) h
 
   pub committed-sized : Sized (committed e t own)
   committed-sized = record {
     scripts = length-set e.scripts t None ∙ z.scripts;
     rows = length-set gone_rows t no_shadows ∙ length-map (renew own 0 e.shadows) (cleared t) ∙ length-renew own 0 e.shadows ∙ z.rows;
     places = λ v l. ⊎_elim
-        (λ (q : v ≡ t). ap (λ k. length (row (committed e t own) k)) q ∙ ap length row-there ∙ length_nothing 8)
+        (λ (q : v ≡ t). ap (λ k. length (row (committed e t own) k)) q ∙ ap length row-there ∙ length-replicate {A = Option Stand} 8 None)
         (λ (q : v ≡ t → ⊥). ap length (row_other v q) ∙ length-set (renewed own v (row e v)) t None ∙ length-renewed own v (row e v) ∙ z.places v l)
         (cases_eq v t);
   }
@@ -165,7 +158,7 @@ module _ (ar : Meaning) (pages : List ℕ) (e : Engine) (i : Inv ar pages no_exe
       (cases_Bool (has_read_any l.reads own))
     where
       remains : (w : ℕ) (s : Stand) → shadow e v w ≡ Some s → has_read_any s.reads own ≡ false → get_or (remaining own (row e v)) w None ≡ Some s
-      remains w s k u = remaining_at own (row e v) w ∙ ap (kept own) k ∙ kept-unread own s u
+      remains w s k u = get_or-map (kept own) (row e v) w None ∙ ap (kept own) k ∙ kept-unread own s u
 
       spoiled : has_read_any l.reads own ≡ true → (o : Option Stand) → furthest_of any_shadow v (remaining own (row e v)) ≡ o → (x : Stand) × NewLead v sc l x
       spoiled read None q = (
@@ -180,7 +173,7 @@ module _ (ar : Meaning) (pages : List ℕ) (e : Engine) (i : Inv ar pages no_exe
       )
       spoiled read (Some x) q =
           let a = furthest_of_among any_shadow v (remaining own (row e v)) x q in
-          let was = kept_was own (shadow e v a.0) x (sym (remaining_at own (row e v) a.0) ∙ a.1) in (
+          let was = kept_was own (shadow e v a.0) x (sym (get_or-map (kept own) (row e v) a.0 None) ∙ a.1) in (
             x,
             record {
               leads = lead_renewed e i.sized t t_in own v l ne h read ∙ ap (λ o. Some (unwrap_or o start)) q;

@@ -1,7 +1,8 @@
 -- Reads against writes: what lists of them have in common, as shadows move. Assumes nothing.
-use Rattle.std.proofs.Common.{◌≡◌, ℕ, Bool, true, false, ◌||◌, eqb, List, [], ◌∷◌, ◌++◌, Some, None, Option, sym, refl, ap, ◌∙◌, ⊎_elim}
+use Rattle.std.proofs.Common.{◌≡◌, ℕ, Bool, true, false, ◌||◌, eqb, List, [], ◌∷◌, Some, None, Option, sym, refl, ap, ◌∙◌, ⊎_elim}
 use Rattle.std.specs.List.{slice_get}
 use Rattle.std.proofs.Math.Bool.{or-false}
+use Rattle.std.proofs.lemmas.List.Folds.{list_any-append}
 use Rattle.std.proofs.lemmas.Bool.{cases_Bool, cases_eq, eq-eqb, ne_eqb, both_ways, or_left, or_right, or_cases, true≢false}
 use Rattle.pages.specs.declared.WriteEntry.{WriteEntry}
 use Rattle.serial.specs.declared.ReadEntry.{ReadEntry}
@@ -54,14 +55,6 @@ read_any_grows (r ∷ rs) es es' h k =
 pub read_any_shrinks : (rs : List ReadEntry) (es es' : List WriteEntry) → ((q : ℕ) → has_written es q ≡ true → has_written es' q ≡ true) → has_read_any rs es' ≡ false → has_read_any rs es ≡ false
 read_any_shrinks rs es es' h k = ⊎_elim (λ (a : has_read_any rs es ≡ true). absurd (both_ways (has_read_any rs es') k (read_any_grows rs es es' h a))) (λ a. a) (cases_Bool (has_read_any rs es))
 
-read_append : (rs qs : List ReadEntry) (p : ℕ) → has_read (rs ++ qs) p ≡ (has_read rs p || has_read qs p)
-read_append [] qs p = refl
-read_append (r ∷ rs) qs p = ap (λ b. eqb r.page p || b) (read_append rs qs p) ∙ regrouped (eqb r.page p) (has_read rs p) (has_read qs p)
-  where
-    regrouped : (a b c : Bool) → (a || (b || c)) ≡ ((a || b) || c)
-    regrouped true b c = refl
-    regrouped false b c = refl
-
 module _ (ar : Meaning) (script : Steps) (pages : List ℕ) where
   -- what an earlier stand has written, a later one has
   pub own_grows : {s t : Stand} → Leads ar script pages s t → (q : ℕ) → has_written s.own q ≡ true → has_written t.own q ≡ true
@@ -74,7 +67,7 @@ module _ (ar : Meaning) (script : Steps) (pages : List ℕ) where
   read_named_grows None l h = h
   read_named_grows {s} {t} (Some p) l h =
       let g = reads_grow ar script pages l in
-      ap (λ xs. has_read xs p) g.1 ∙ read_append s.reads g.0 p ∙ or_left (has_read s.reads p) (has_read g.0 p) h
+      ap (λ xs. has_read xs p) g.1 ∙ list_any-append (λ r. eqb r.page p) s.reads g.0 ∙ or_left (has_read s.reads p) (has_read g.0 p) h
 
   pub read_named_shrinks : {s t : Stand} (wr : Option ℕ) → Leads ar script pages s t → read_named t.reads wr ≡ false → read_named s.reads wr ≡ false
   read_named_shrinks {s} {t} wr l h = ⊎_elim (λ (a : read_named s.reads wr ≡ true). absurd (both_ways (read_named t.reads wr) h (read_named_grows wr l a))) (λ a. a) (cases_Bool (read_named s.reads wr))

@@ -15,6 +15,14 @@ Exempt = ℕ → List ReadEntry → Bool
 abbrev pub no_exempt : Exempt
 no_exempt u rs = false
 
+-- where there is room, a shadow that is put keeps the row within the allowance
+pub count_room : (e : Engine) (v u : ℕ) → count (row e v) ≤ e.allowance → has_room e v u ≡ true → (s : Stand) → count (set (row e v) u (Some s)) ≤ e.allowance
+count_room e v u few h s =
+    ⊎_elim
+    (λ (a : is_some (shadow e v u) ≡ true). let o = some_is (shadow e v u) a in omega (arith, count_set (row e v) u o.0 s o.1))
+    (λ (a : ltb (count (row e v)) e.allowance ≡ true). omega (arith, ltb-true (count (row e v)) e.allowance a, count_add (row e v) u s))
+    (or_cases (is_some (shadow e v u)) (ltb (count (row e v)) e.allowance) h)
+
 module _ (ar : Meaning) (pages : List ℕ) where
   -- what holds of the shadows of slot v
   pub record RowInv (x : Exempt) (e : Engine) (v : ℕ) : Type 0 where
@@ -121,20 +129,12 @@ module _ (ar : Meaning) (pages : List ℕ) where
     abbrev pub forked : Stand
     forked = unwrap_or (furthest_of (clean e u) v (row e v)) start
 
-    count_room : has_room e v u ≡ true → (s : Stand) → count (set (row e v) u (Some s)) ≤ e.allowance
-    count_room h s =
-        let few = (i.rows v).few in
-        ⊎_elim
-        (λ (a : is_some (shadow e v u) ≡ true). let o = some_is (shadow e v u) a in omega (arith, count_set (row e v) u o.0 s o.1))
-        (λ (a : ltb (count (row e v)) e.allowance ≡ true). omega (arith, ltb-true (count (row e v)) e.allowance a, count_add (row e v) u s))
-        (or_cases (is_some (shadow e v u)) (ltb (count (row e v)) e.allowance) h)
-
     forked_fork : (o : Option Stand) → furthest_of (clean e u) v (row e v) ≡ o → has_room e v u ≡ true → Fork e v u (unwrap_or o start)
     forked_fork None q room = record {
       reached = λ sc h. here;
       behind = λ l h. omega arith;
       unread = refl;
-      room = count_room room start;
+      room = count_room e v u (i.rows v).few room start;
     }
     forked_fork (Some s) q room =
         let a = furthest_of_among (clean e u) v (row e v) s q in
@@ -142,7 +142,7 @@ module _ (ar : Meaning) (pages : List ℕ) where
           reached = λ sc h. (i.rows v).reached sc a.0 s h a.1;
           behind = λ l h. (i.rows v).behind a.0 s l a.1 h;
           unread = not-true (has_read_any s.reads (lead_writes e u)) a.2;
-          room = count_room room s;
+          room = count_room e v u (i.rows v).few room s;
         }
 
     pub account_forks : has_room e v u ≡ true → account e v u ≡ with_shadow e v u (Some forked)

@@ -1,6 +1,6 @@
 -- What each call comes to, by the check that decides it. Assumes nothing.
 use Rattle.std.proofs.Common.{◌≡◌, ℕ, ◌<◌, ◌≤◌, Bool, true, false, cond, ◌&&◌, eqb, leb, List, length, is_some, Some, Option, Result, unwrap_or, sym, refl, ap, ◌∙◌, ⊎_elim, arith}
-use Rattle.std.proofs.lemmas.Bool.{cases_eq, cond-true, cond-false, and_from, and_left, and_right, or_parts, le-leb, lt-leb, leb-false, eq-eqb, ne_eqb}
+use Rattle.std.proofs.lemmas.Bool.{cases_eq, cond-true, cond-false, and_from, or_parts, le-leb, lt-leb, leb-false, eq-eqb, ne_eqb}
 use Rattle.script.specs.Script.{decoded}
 use Rattle.script.specs.declared.ScriptFault.{ScriptFault}
 use Rattle.serial.specs.declared.fault.CallFault.TheVariants.{NoSlot, BadAllowance, AlreadyOpen, NotEnded}
@@ -11,6 +11,7 @@ use Rattle.serial.specs.Alone.{next}
 use Rattle.serial.specs.Rules.{Engine, State, Done, script_of, is_open, shadow, place_of, waits, standing, decline, in_range, first_open, allow_closed, allows, begin_with, begins, turn_step, turn_standing, turn_shadow, turn_open, turns, first_off, commit_puts, commit_lead, commit_open, commits, abort_open, aborts}
 use Rattle.serial.specs.Sound.{SoundEngine}
 use Rattle.serial.proofs.Table.{some_is}
+use Rattle.serial.proofs.Calls.{not_halted}
 use Rattle.serial.proofs.Sound.{ok_from}
 
 module _ (s : State) where
@@ -21,33 +22,15 @@ module _ (s : State) where
   within_range t rest l = cond-true (leb t 7) rest (decline s (NoSlot t)) (le-leb t 7 l)
 
   -- set allowance
-  pub allow_low : (k : ℕ) → k < 1 → allows s k ≡ decline s (BadAllowance k)
-  allow_low k l = cond-false (leb 1 k && leb k 8) _ (decline s (BadAllowance k)) (and_left (leb 1 k) (leb k 8) (lt-leb 1 k l))
-
-  pub allow_high : (k : ℕ) → 8 < k → allows s k ≡ decline s (BadAllowance k)
-  allow_high k l = cond-false (leb 1 k && leb k 8) _ (decline s (BadAllowance k)) (and_right (leb 1 k) (leb k 8) (lt-leb k 8 l))
-
   pub allow_by : (k : ℕ) (o : Option ℕ) → 1 ≤ k → k ≤ 8 → first_open 0 s.engine.scripts ≡ o → allows s k ≡ allow_closed s k o
   allow_by k o a b h = cond-true (leb 1 k && leb k 8) _ (decline s (BadAllowance k)) (and_from (leb 1 k) (leb k 8) (le-leb 1 k a) (le-leb k 8 b)) ∙ ap (allow_closed s k) h
 
   -- begin
-  pub begin_past : (t : ℕ) (bytes : List ℕ) → 7 < t → begins s t bytes ≡ decline s (NoSlot t)
-  begin_past t bytes l = out_of_range t _ l
-
-  pub begin_open : (t : ℕ) (bytes : List ℕ) → t ≤ 7 → is_open s.engine t ≡ true → begins s t bytes ≡ decline s (AlreadyOpen t)
-  begin_open t bytes l h = within_range t _ l ∙ cond-true (is_open s.engine t) (decline s (AlreadyOpen t)) (begin_with s t (decoded bytes)) h
-
   pub begin_by : (t : ℕ) (bytes : List ℕ) (r : Result Steps ScriptFault) → t ≤ 7 → is_open s.engine t ≡ false → decoded bytes ≡ r → begins s t bytes ≡ begin_with s t r
   begin_by t bytes r l h d = within_range t _ l ∙ cond-false (is_open s.engine t) (decline s (AlreadyOpen t)) (begin_with s t (decoded bytes)) h ∙ ap (begin_with s t) d
 
   -- turn
   module _ (ar : Meaning) (t u : ℕ) where
-    pub turn_past : 7 < t → turns ar s t u ≡ decline s (NoSlot t)
-    turn_past l = out_of_range t _ l
-
-    pub turn_past_other : t ≤ 7 → 7 < u → turns ar s t u ≡ decline s (NoSlot u)
-    turn_past_other l k = within_range t _ l ∙ out_of_range u _ k
-
     pub turn_by : (o : Option Steps) → t ≤ 7 → u ≤ 7 → script_of s.engine t ≡ o → turns ar s t u ≡ turn_open ar s t u o
     turn_by o l k h = within_range t _ l ∙ within_range u _ k ∙ ap (turn_open ar s t u) h
 
@@ -62,25 +45,16 @@ module _ (s : State) where
 
   -- commit
   module _ (t : ℕ) where
-    pub commit_past : 7 < t → commits s t ≡ decline s (NoSlot t)
-    commit_past l = out_of_range t _ l
-
     pub commit_by : (o : Option Steps) → t ≤ 7 → script_of s.engine t ≡ o → commits s t ≡ commit_open s t o
     commit_by o l h = within_range t _ l ∙ ap (commit_open s t) h
 
     pub commit_by_lead : (sc : Steps) (lead : Stand) → t ≤ 7 → script_of s.engine t ≡ Some sc → unwrap_or (shadow s.engine t t) start ≡ lead → commits s t ≡ commit_lead s t sc lead
     commit_by_lead sc lead l h q = commit_by (Some sc) l h ∙ ap (commit_lead s t sc) q
 
-    pub commit_early : (sc : Steps) (lead : Stand) → t ≤ 7 → script_of s.engine t ≡ Some sc → unwrap_or (shadow s.engine t t) start ≡ lead → lead.step < length sc → commits s t ≡ decline s (NotEnded lead.step)
-    commit_early sc lead l h q k = commit_by_lead sc lead l h q ∙ cond-false (leb (length sc) lead.step) _ (decline s (NotEnded lead.step)) (lt-leb (length sc) lead.step k)
-
     pub commit_by_puts : (sc : Steps) (lead : Stand) (o : Option ℕ) → t ≤ 7 → script_of s.engine t ≡ Some sc → unwrap_or (shadow s.engine t t) start ≡ lead → length sc ≤ lead.step → first_off (length s.pages) lead.own ≡ o → commits s t ≡ commit_puts s t lead o
     commit_by_puts sc lead o l h q k f = commit_by_lead sc lead l h q ∙ cond-true (leb (length sc) lead.step) _ (decline s (NotEnded lead.step)) (le-leb (length sc) lead.step k) ∙ ap (commit_puts s t lead) f
 
     -- abort
-    pub abort_past : 7 < t → aborts s t ≡ decline s (NoSlot t)
-    abort_past l = out_of_range t _ l
-
     pub abort_by : (o : Option Steps) → t ≤ 7 → script_of s.engine t ≡ o → aborts s t ≡ abort_open s t o
     abort_by o l h = within_range t _ l ∙ ap (abort_open s t) h
 
@@ -104,7 +78,3 @@ ready_before_end e sound t u sc at script h ready =
     not_end : (b : Bool) → cond b AtEnd Ready ≡ Ready → b ≡ false
     not_end true h = let z : ◌≡◌ {A = ℕ} 0 1 = cc in absurd (omega arith)
     not_end false h = refl
-
-    not_halted : (b : Bool) → cond b Halted Ready ≡ Ready → b ≡ false
-    not_halted true h = let z : ◌≡◌ {A = ℕ} 0 1 = cc in absurd (omega arith)
-    not_halted false h = refl

@@ -1,8 +1,8 @@
 -- Laws of a run alone. Assumes nothing.
 use Rattle.std.proofs.Common.{◌≡◌, ℕ, zero, suc, ◌+◌, ◌<◌, ◌≤◌, Bool, true, false, ◌||◌, eqb, ◌⊎◌, List, [], ◌∷◌, ◌++◌, length, get_or, set, Some, None, Option, sym, refl, ap, ◌∙◌, subst, inl, inr, ⊎_elim, arith, length-set, get_or-set_other}
 use Rattle.std.specs.List.{slice_get}
-use Rattle.std.proofs.iter.runs.Lists.{slice_get_within}
 use Rattle.std.proofs.lemmas.List.{append-nil, append_assoc}
+use Rattle.std.proofs.lemmas.List.Folds.{list_any-append}
 use Rattle.std.proofs.lemmas.Bool.{cases_Bool, cond-true, cond-false, eq-eqb, eqb-true, ne_eqb, both_ways, or_parts, or_left, or_right, true≢false}
 use Rattle.pages.specs.declared.WriteEntry.{WriteEntry}
 use Rattle.script.specs.declared.Step.{Step}
@@ -12,15 +12,6 @@ use Rattle.serial.specs.Machine.{Meaning, Steps, Stand, start, effect, Taken, mo
 use Rattle.serial.specs.Laws.{Next, Leads, here, more, StepsRise, RunsDetermined, ReadsGrow, UnreadReached, StandFound}
 use Rattle.serial.specs.Alone.{Reached, there, fault, try_step, next, go_on, first_stand, is_at, stand_at, on_list, before_read_of, put_all}
 use Rattle.serial.proofs.Steps.{noted, Moves, step-moves}
-
--- lists of reads, against a list of writes
-pub read_any_append : (rs qs : List ReadEntry) (es : List WriteEntry) → has_read_any (rs ++ qs) es ≡ (has_read_any rs es || has_read_any qs es)
-read_any_append [] qs es = refl
-read_any_append (r ∷ rs) qs es = ap (λ b. has_written es r.page || b) (read_any_append rs qs es) ∙ regrouped (has_written es r.page) (has_read_any rs es) (has_read_any qs es)
-  where
-    regrouped : (a b c : Bool) → (a || (b || c)) ≡ ((a || b) || c)
-    regrouped true b c = refl
-    regrouped false b c = refl
 
 -- puts keep the size, and every page that is not on the list
 pub length-put_all : (es : List WriteEntry) (pages : List ℕ) → length (put_all es pages) ≡ length pages
@@ -60,9 +51,6 @@ module _ (ar : Meaning) (script : Steps) where
 
     pub next_same : (s t u : Stand) → Next ar script pages s t → Next ar script pages s u → t ≡ u
     next_same s t u h k = cc
-
-    pub next-within : (s t : Stand) → Next ar script pages s t → s.step < length script
-    next-within s t h = let x = stepped s t h in slice_get_within script s.step x.step x.at
 
     pub next-ends : (s t : Stand) → EndsAtEnd script → Next ar script pages s t → t.step ≤ length script
     next-ends s t ends h =
@@ -113,7 +101,7 @@ module _ (ar : Meaning) (script : Steps) where
     pub read_lasts : {s t : Stand} (es : List WriteEntry) → Leads ar script pages s t → has_read_any s.reads es ≡ true → has_read_any t.reads es ≡ true
     read_lasts {s} {t} es l h =
         let g = reads_grow l in
-        ap (λ xs. has_read_any xs es) g.1 ∙ read_any_append s.reads g.0 es ∙ ap (λ b. b || has_read_any g.0 es) h
+        ap (λ xs. has_read_any xs es) g.1 ∙ list_any-append (λ r. has_written es r.page) s.reads g.0 ∙ ap (λ b. b || has_read_any g.0 es) h
 
     pub unread_before : {s t : Stand} (es : List WriteEntry) → Leads ar script pages s t → has_read_any t.reads es ≡ false → has_read_any s.reads es ≡ false
     unread_before {s} {t} es l h =
@@ -130,7 +118,7 @@ module _ (ar : Meaning) (script : Steps) where
         let one = (stepped s m h).move.reads in
         let o = store_read (slice_get script s.step) s in
         read_lasts es k
-        (ap (λ xs. has_read_any xs es) one ∙ read_any_append s.reads (noted s.step o) es ∙ or_right (has_read_any s.reads es) (has_read_any (noted s.step o) es) (noted-on_list s.step o es b))
+        (ap (λ xs. has_read_any xs es) one ∙ list_any-append (λ r. has_written es r.page) s.reads (noted s.step o) ∙ or_right (has_read_any s.reads es) (has_read_any (noted s.step o) es) (noted-on_list s.step o es b))
 
     -- the first stand that passes a test: it is reached, passes, and none before it passes
     pub record First (test : Stand → Bool) (s t : Stand) : Type 0 where
@@ -205,7 +193,7 @@ module _ (ar : Meaning) (script : Steps) where
     next-frame s t h unread =
         let x = stepped pages s t h in
         let o = store_read (slice_get script s.step) s in
-        let split = sym (ap (λ rs. has_read_any rs es) x.move.reads ∙ read_any_append s.reads (noted s.step o) es) ∙ unread in
+        let split = sym (ap (λ rs. has_read_any rs es) x.move.reads ∙ list_any-append (λ r. has_written es r.page) s.reads (noted s.step o)) ∙ unread in
         let fresh = (or_parts (has_read_any s.reads es) (has_read_any (noted s.step o) es) split).1 in
         ap (try_step ar pages' s) x.at
         ∙ ap Some (x.move.frame pages' long (λ p e. alike p (noted-unread s.step o p fresh e)))

@@ -1,8 +1,9 @@
 -- Every call keeps what holds in every engine, over any pages. Assumes nothing.
-use Rattle.std.proofs.Common.{◌≡◌, ℕ, zero, suc, ◌+◌, ◌<◌, ◌≤◌, true, false, not, ◌&&◌, eqb, ltb, leb, ◌≢◌, ◌⊎◌, List, [], ◌∷◌, length, get_or, set, replicate, is_some, Some, None, Ok, Err, Option, Result, unwrap_or, sym, refl, ap, ◌∙◌, subst, inl, inr, ⊎_elim, arith, length-set, get_or-set_other, get_or-set_same}
+use Rattle.std.proofs.Common.{◌≡◌, ℕ, zero, suc, ◌+◌, ◌<◌, ◌≤◌, true, false, not, ◌&&◌, eqb, ltb, leb, ◌≢◌, ◌⊎◌, List, [], ◌∷◌, length, get_or, set, is_some, Some, None, Ok, Err, Option, Result, unwrap_or, sym, refl, ap, ◌∙◌, subst, inl, inr, ⊎_elim, arith}
 use Rattle.std.specs.List.{slice_get}
 use Rattle.std.proofs.lemmas.List.{length-append}
-use Rattle.std.proofs.lemmas.Bool.{cases_Bool, cases_eq, cond-true, cond-false, cond_both, and_parts, and_from, or_cases, leb-true, le-leb, ltb-true, eqb-true, eqb-false, not-true, true≢false}
+use Rattle.std.proofs.Math.ListN.{get_or-map}
+use Rattle.std.proofs.lemmas.Bool.{cases_Bool, cases_eq, cond-true, cond-false, cond_both, and_parts, and_from, leb-true, le-leb, eqb-true, eqb-false, not-true, true≢false}
 use Rattle.pages.specs.Pages.{entry}
 use Rattle.pages.specs.declared.WriteEntry.{WriteEntry}
 use Rattle.script.specs.declared.Step.{Step}
@@ -18,12 +19,13 @@ use Rattle.serial.specs.Alone.{next}
 use Rattle.serial.specs.Laws.{Next}
 use Rattle.serial.specs.Rules.{Engine, State, Done, slots, fresh_engine, script_of, is_open, row, shadow, with_shadow, clean, furthest_of, any_shadow, count, has_room, account, read_conflict, account_read, account_reads, write_conflict, account_write, account_writes, before_step, after_step, lead_moves, shadow_moves, standing, in_range, first_open, allow_closed, begun, begin_with, turn_step, turn_standing, turn_shadow, turn_open, remaining, kept, committed, first_off, commit_puts, commit_open, abort_open, Call, set_allowance, begin, turn, commit, abort, does}
 use Rattle.serial.specs.Sound.{ends_within, script_fits, shadow_fits, SoundEngine}
-use Rattle.serial.proofs.Steps.{noted}
+use Rattle.serial.proofs.Steps.{noted, off_moved}
 use Rattle.serial.proofs.Runs.{stepped, next-ends}
-use Rattle.serial.proofs.Table.{none_is_some, some_is, none_is, some_or_none, Sized, shadow-within, row_put, row_put_other, shadow_put, shadow_put_place, shadow_put_row, sized_put, count_set, count_add, remaining_at, kept_was, furthest_of_among}
-use Rattle.serial.proofs.Turns.{open_within}
+use Rattle.serial.proofs.Table.{none_is_some, some_is, none_is, some_or_none, Sized, shadow-within, row_put, row_put_other, shadow_put, shadow_put_place, shadow_put_row, sized_put, nothing_at, count_set, count_add, kept_was, furthest_of_among}
+use Rattle.serial.proofs.Kept.{count_room}
+use Rattle.serial.proofs.Turns.{open_within, open_kept, account-scripts}
 use Rattle.serial.proofs.Commits.{none_of, none_for, others_kept, lead_stays, lead_renewed, lead_none, committed-sized, committed-count, script-there, script_other, abort_is}
-use Rattle.serial.proofs.Calls.{fresh_good, none_open, count_none}
+use Rattle.serial.proofs.Calls.{BegunSo, begun-so, fresh_good, none_open, count_none}
 
 -- a shadow that fits its script
 abbrev pub FitsScript : Steps → Stand → Type 0
@@ -113,9 +115,6 @@ length-write (e ∷ es) p w =
     let rest = length-write es p w in
     cond_both (eqb e.page p) (entry p w ∷ es) (e ∷ write es p w) (λ xs. length xs ≤ suc (suc (length es))) (λ _. omega arith) (λ _. omega arith)
 
-off_moved : (p : ℕ) (t : Stand) {A : Type 0} → off_pages p ≡ moved t → A
-off_moved p t e = let z : ◌≡◌ {A = ℕ} 0 1 = cc in absurd (omega arith)
-
 module _ (pages : List ℕ) (s : Stand) where
   read_own : (a : Register) (p : ℕ) (o : Option ℕ) (t : Stand) → take_read pages s a p o ≡ moved t → length t.own ≤ suc (length s.own)
   read_own a p (Some w) t e = let x : with_register s a w ≡ t = cc in subst (λ y. length y.own ≤ suc (length s.own)) x (omega arith)
@@ -204,20 +203,12 @@ account-ok e o v u v_open u_open =
     let v_in = open_within e o.sized v v_open in
     let u_in = open_within e o.sized u u_open in
     cond_both (has_room e v u) (with_shadow e v u (Some (unwrap_or (furthest_of (clean e u) v (row e v)) start))) e Holds
-    (λ h. put_ok e o v u v_in u_in sc.0 sc.1 u_open _ (forked sc.0 sc.1 (furthest_of (clean e u) v (row e v)) refl) (room h _))
+    (λ h. put_ok e o v u v_in u_in sc.0 sc.1 u_open _ (forked sc.0 sc.1 (furthest_of (clean e u) v (row e v)) refl) (count_room e v u (o.few v) h _))
     (λ h. o)
   where
     forked : (sc : Steps) → script_of e v ≡ Some sc → (x : Option Stand) → furthest_of (clean e u) v (row e v) ≡ x → FitsScript sc (unwrap_or x start)
     forked sc h None q = start_fits sc
     forked sc h (Some s) q = let a = furthest_of_among (clean e u) v (row e v) s q in o.shadows v a.0 sc s h a.1
-
-    room : has_room e v u ≡ true → (s : Stand) → count (set (row e v) u (Some s)) ≤ e.allowance
-    room h s =
-        let few = o.few v in
-        ⊎_elim
-        (λ (a : is_some (shadow e v u) ≡ true). let x = some_is (shadow e v u) a in omega (arith, count_set (row e v) u x.0 s x.1))
-        (λ (a : ltb (count (row e v)) e.allowance ≡ true). omega (arith, ltb-true (count (row e v)) e.allowance a, count_add (row e v) u s))
-        (or_cases (is_some (shadow e v u)) (ltb (count (row e v)) e.allowance) h)
 
 -- accounting leaves leading shadows and scripts
 account_lead : (e : Engine) → Holds e → (v u : ℕ) → u ≢ v → is_open e v ≡ true → is_open e u ≡ true → (w : ℕ) → shadow (account e v u) w w ≡ shadow e w w
@@ -231,9 +222,6 @@ account_lead e o v u ne v_open u_open w =
     (cases_eq w v))
     (λ h. refl)
 
-account-script : (e : Engine) (v u : ℕ) → (account e v u).scripts ≡ e.scripts
-account-script e v u = cond_both (has_room e v u) _ e (λ z. z.scripts ≡ e.scripts) (λ h. refl) (λ h. refl)
-
 -- what accounting keeps, over a list of slots
 pub record Stays (e e' : Engine) : Type 0 where
   pub ok : Holds e'
@@ -246,11 +234,8 @@ stays_same e o = record { ok = o; leads = λ w. refl; scripts = refl }
 stays_then : (e e₁ e₂ : Engine) → Stays e e₁ → Stays e₁ e₂ → Stays e e₂
 stays_then e e₁ e₂ a b = record { ok = b.ok; leads = λ w. b.leads w ∙ a.leads w; scripts = b.scripts ∙ a.scripts }
 
-pub open_same : (e e' : Engine) (t : ℕ) → e'.scripts ≡ e.scripts → is_open e t ≡ true → is_open e' t ≡ true
-open_same e e' t q h = ap (λ xs. is_some (get_or xs t None)) q ∙ h
-
 accounted_stays : (e : Engine) → Holds e → (v u : ℕ) → u ≢ v → is_open e v ≡ true → is_open e u ≡ true → Stays e (account e v u)
-accounted_stays e o v u ne v_open u_open = record { ok = account-ok e o v u v_open u_open; leads = account_lead e o v u ne v_open u_open; scripts = account-script e v u }
+accounted_stays e o v u ne v_open u_open = record { ok = account-ok e o v u v_open u_open; leads = account_lead e o v u ne v_open u_open; scripts = account-scripts e v u }
 
 pub reads_stay : (us : List ℕ) (e : Engine) (t p : ℕ) → Holds e → is_open e t ≡ true → Stays e (account_reads e t p us)
 reads_stay [] e t p o t_open = stays_same e o
@@ -261,7 +246,7 @@ reads_stay (u ∷ us) e t p o t_open =
     let b = and_parts (is_open e u) _ a.1 in
     accounted_stays e o t u (eqb-false u t (not-true (eqb u t) a.0)) t_open b.0)
     (λ h. stays_same e o) in
-    stays_then e (account_read e t p u) _ one (reads_stay us (account_read e t p u) t p one.ok (open_same e (account_read e t p u) t one.scripts t_open))
+    stays_then e (account_read e t p u) _ one (reads_stay us (account_read e t p u) t p one.ok (open_kept e (account_read e t p u) t one.scripts t_open))
 
 pub writes_stay : (vs : List ℕ) (e : Engine) (t p : ℕ) → Holds e → is_open e t ≡ true → Stays e (account_writes e t p vs)
 writes_stay [] e t p o t_open = stays_same e o
@@ -272,7 +257,7 @@ writes_stay (v ∷ vs) e t p o t_open =
     let b = and_parts (is_open e v) _ a.1 in
     accounted_stays e o v t (λ z. eqb-false v t (not-true (eqb v t) a.0) (sym z)) b.0 t_open)
     (λ h. stays_same e o) in
-    stays_then e (account_write e t p v) _ one (writes_stay vs (account_write e t p v) t p one.ok (open_same e (account_write e t p v) t one.scripts t_open))
+    stays_then e (account_write e t p v) _ one (writes_stay vs (account_write e t p v) t p one.ok (open_kept e (account_write e t p v) t one.scripts t_open))
 
 pub before_stays : (e : Engine) (t : ℕ) (sr : Option ℕ) → Holds e → is_open e t ≡ true → Stays e (before_step e t sr)
 before_stays e t None o t_open = stays_same e o
@@ -356,7 +341,7 @@ committed-ok e o t t_in own = record {
         by read None q = (start, (lead_renewed e o.sized t t_in own v l ne h read ∙ ap (λ y. Some (unwrap_or y start)) q, λ sc k. start_fits sc))
         by read (Some x) q =
             let a = furthest_of_among any_shadow v (remaining own (row e v)) x q in
-            let was = kept_was own (shadow e v a.0) x (sym (remaining_at own (row e v) a.0) ∙ a.1) in
+            let was = kept_was own (shadow e v a.0) x (sym (get_or-map (kept own) (row e v) a.0 None) ∙ a.1) in
             (x, (lead_renewed e o.sized t t_in own v l ne h read ∙ ap (λ y. Some (unwrap_or y start)) q, λ sc k. o.shadows v a.0 sc x k was.0))
 
     old : (v u : ℕ) (s : Stand) → v ≢ t → u ≢ v → shadow (committed e t own) v u ≡ Some s → (u ≢ t) × (shadow e v u ≡ Some s)
@@ -381,67 +366,55 @@ committed-ok e o t t_in own = record {
 
 -- begin
 module _ (e : Engine) (o : Holds e) (t : ℕ) (t_in : t < 8) (free : is_open e t ≡ false) (sc : Steps) (fit : (length sc ≤ 16) × EndsAtEnd sc) where
-  abbrev entered : Engine
-  entered = record { allowance = e.allowance; scripts = set e.scripts t (Some sc); shadows = e.shadows }
-
-  entered-sized : Sized entered
-  entered-sized = record { scripts = length-set e.scripts t (Some sc) ∙ o.sized.scripts; rows = o.sized.rows; places = o.sized.places }
-
-  script_now : script_of (begun e t sc) t ≡ Some sc
-  script_now = get_or-set_same e.scripts t (Some sc) None (let n = o.sized.scripts in omega arith)
-
-  script_then : (v : ℕ) → v ≢ t → script_of (begun e t sc) v ≡ script_of e v
-  script_then v ne = get_or-set_other e.scripts t v (Some sc) None ne
-
-  lead_now : shadow (begun e t sc) t t ≡ Some start
-  lead_now = shadow_put entered entered-sized t t t_in t_in (Some start)
+  so : BegunSo e t sc
+  so = begun-so e o.sized t t_in sc
 
   -- every other place is as it was
   place_then : (v u : ℕ) → (v ≡ t → u ≡ t → ⊥) → shadow (begun e t sc) v u ≡ shadow e v u
   place_then v u d =
       ⊎_elim
-      (λ (q : v ≡ t). subst (λ m. shadow (begun e t sc) m u ≡ shadow e m u) (sym q) (shadow_put_place entered entered-sized t t t_in t_in (Some start) u (d q)))
-      (λ (q : v ≡ t → ⊥). shadow_put_row entered entered-sized t t t_in t_in (Some start) v u q)
+      (λ (q : v ≡ t). subst (λ m. shadow (begun e t sc) m u ≡ shadow e m u) (sym q) (so.place_other u (d q)))
+      (λ (q : v ≡ t → ⊥). so.shadow_other v u q)
       (cases_eq v t)
 
   here_or : (v u : ℕ) → ((v ≡ t) × (u ≡ t)) ⊎ (v ≡ t → u ≡ t → ⊥)
   here_or v u = ⊎_elim (λ (q : v ≡ t). ⊎_elim (λ (p : u ≡ t). inl (q, p)) (λ (p : u ≡ t → ⊥). inr (λ _ z. p z)) (cases_eq u t)) (λ (q : v ≡ t → ⊥). inr (λ z _. q z)) (cases_eq v t)
 
   at_here : (v u : ℕ) → (v ≡ t) × (u ≡ t) → shadow (begun e t sc) v u ≡ Some start
-  at_here v u q = subst (λ m. shadow (begun e t sc) m u ≡ Some start) (sym q.0) (subst (λ m. shadow (begun e t sc) t m ≡ Some start) (sym q.1) lead_now)
+  at_here v u q = subst (λ m. shadow (begun e t sc) m u ≡ Some start) (sym q.0) (subst (λ m. shadow (begun e t sc) t m ≡ Some start) (sym q.1) so.lead_now)
 
   open_then : (u : ℕ) → is_open e u ≡ true → is_open (begun e t sc) u ≡ true
-  open_then u h = ⊎_elim (λ (q : u ≡ t). ap (is_open (begun e t sc)) q ∙ ap is_some script_now) (λ (q : u ≡ t → ⊥). ap is_some (script_then u q) ∙ h) (cases_eq u t)
+  open_then u h = ⊎_elim (λ (q : u ≡ t). ap (is_open (begun e t sc)) q ∙ ap is_some so.script_now) (λ (q : u ≡ t → ⊥). ap is_some (so.script_other u q) ∙ h) (cases_eq u t)
 
   begun_ok : Holds (begun e t sc)
   begun_ok = record {
-    sized = sized_put entered entered-sized t t t_in t_in (Some start);
+    sized = so.sized;
     allowed = o.allowed;
     bare = λ v u h.
-        let ne : v ≢ t = λ q. true≢false (sym (ap is_some script_now) ∙ ap (is_open (begun e t sc)) (sym q) ∙ h) in
-        ap is_some (place_then v u (λ q _. ne q)) ∙ o.bare v u (sym (ap is_some (script_then v ne)) ∙ h);
+        let ne : v ≢ t = λ q. true≢false (sym (ap is_some so.script_now) ∙ ap (is_open (begun e t sc)) (sym q) ∙ h) in
+        ap is_some (place_then v u (λ q _. ne q)) ∙ o.bare v u (sym (ap is_some (so.script_other v ne)) ∙ h);
     led = λ v h. ⊎_elim
         (λ (q : (v ≡ t) × (v ≡ t)). ap is_some (at_here v v q))
-        (λ (q : v ≡ t → v ≡ t → ⊥). let ne : v ≢ t = λ z. q z z in ap is_some (place_then v v q) ∙ o.led v (sym (ap is_some (script_then v ne)) ∙ h))
+        (λ (q : v ≡ t → v ≡ t → ⊥). let ne : v ≢ t = λ z. q z z in ap is_some (place_then v v q) ∙ o.led v (sym (ap is_some (so.script_other v ne)) ∙ h))
         (here_or v v);
     few = λ v. ⊎_elim
-        (λ (q : v ≡ t). subst (λ m. count (row (begun e t sc) m) ≤ e.allowance) (sym q) (subst (λ cs. count cs ≤ e.allowance) (sym (row_put entered entered-sized t t t_in t_in (Some start)))
+        (λ (q : v ≡ t). subst (λ m. count (row (begun e t sc) m) ≤ e.allowance) (sym q) (subst (λ cs. count cs ≤ e.allowance) (sym so.row_now)
         (let a = count_add (row e t) t start in let b = count_none (row e t) (λ u. none_is (shadow e t u) (o.bare t u free)) in let c = o.allowed.0 in omega arith)))
-        (λ (q : v ≡ t → ⊥). subst (λ cs. count cs ≤ e.allowance) (sym (row_put_other entered entered-sized t t t_in t_in (Some start) v q)) (o.few v))
+        (λ (q : v ≡ t → ⊥). subst (λ cs. count cs ≤ e.allowance) (sym (so.row_other v q)) (o.few v))
         (cases_eq v t);
     for_open = λ v u h. ⊎_elim
-        (λ (q : (v ≡ t) × (u ≡ t)). ap (is_open (begun e t sc)) q.1 ∙ ap is_some script_now)
+        (λ (q : (v ≡ t) × (u ≡ t)). ap (is_open (begun e t sc)) q.1 ∙ ap is_some so.script_now)
         (λ (q : v ≡ t → u ≡ t → ⊥). open_then u (o.for_open v u (sym (ap is_some (place_then v u q)) ∙ h)))
         (here_or v u);
     scripts = λ v z h. ⊎_elim
-        (λ (q : v ≡ t). let same : sc ≡ z = let m : Some sc ≡ Some z = sym script_now ∙ ap (script_of (begun e t sc)) (sym q) ∙ h in cc in subst (λ a. (length a ≤ 16) × EndsAtEnd a) same fit)
-        (λ (q : v ≡ t → ⊥). o.scripts v z (sym (script_then v q) ∙ h))
+        (λ (q : v ≡ t). let same : sc ≡ z = let m : Some sc ≡ Some z = sym so.script_now ∙ ap (script_of (begun e t sc)) (sym q) ∙ h in cc in subst (λ a. (length a ≤ 16) × EndsAtEnd a) same fit)
+        (λ (q : v ≡ t → ⊥). o.scripts v z (sym (so.script_other v q) ∙ h))
         (cases_eq v t);
     shadows = λ v u z s h k. ⊎_elim
         (λ (q : (v ≡ t) × (u ≡ t)). let same : start ≡ s = let m : Some start ≡ Some s = sym (at_here v u q) ∙ k in cc in subst (FitsScript z) same (start_fits z))
         (λ (q : v ≡ t → u ≡ t → ⊥). ⊎_elim
         (λ (w : v ≡ t). none_is_some s (sym (none_is (shadow e v u) (o.bare v u (ap (is_open e) w ∙ free))) ∙ sym (place_then v u q) ∙ k))
-        (λ (w : v ≡ t → ⊥). o.shadows v u z s (sym (script_then v w) ∙ h) (sym (place_then v u q) ∙ k))
+        (λ (w : v ≡ t → ⊥). o.shadows v u z s (sym (so.script_other v w) ∙ h) (sym (place_then v u q) ∙ k))
         (cases_eq v t))
         (here_or v u);
   }
@@ -524,7 +497,7 @@ module _ (ar : Meaning) where
 fresh_holds : Holds fresh_engine
 fresh_holds =
     let g = fresh_good (λ op a b. 0) [] in
-    let script : (t : ℕ) → script_of fresh_engine t ≡ None = λ t. closed_at 8 t in
+    let script : (t : ℕ) → script_of fresh_engine t ≡ None = λ t. nothing_at 8 t in
     record {
       sized = g.sized;
       allowed = g.allowed;
@@ -535,11 +508,6 @@ fresh_holds =
       scripts = λ t sc h. none_is_some sc (sym (script t) ∙ h);
       shadows = λ t u sc s h k. none_is_some sc (sym (script t) ∙ h);
     }
-  where
-    closed_at : (n t : ℕ) → get_or {A = Option Steps} (replicate n None) t None ≡ None
-    closed_at zero t = refl
-    closed_at (suc n) zero = refl
-    closed_at (suc n) (suc t) = closed_at n t
 
 pub fresh-sound : SoundEngine fresh_engine
 fresh-sound = sound_from fresh_engine fresh_holds

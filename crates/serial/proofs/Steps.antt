@@ -1,7 +1,7 @@
 -- What one step does, told by what it reads and writes. Assumes nothing.
 use Rattle.std.proofs.Common.{◌≡◌, ℕ, ◌+◌, ◌<◌, ◌≤◌, Bool, true, false, ◌||◌, eqb, ltb, List, [], ◌∷◌, ◌++◌, length, get_or, Some, None, Option, sym, refl, ap, ◌∙◌, subst, ⊎_elim, arith}
 use Rattle.std.proofs.lemmas.List.{append-nil}
-use Rattle.std.proofs.Math.Bool.{or-false}
+use Rattle.std.proofs.Math.Bool.{or-false, or_assoc}
 use Rattle.std.proofs.lemmas.Bool.{cases_Bool, cond-true, cond-false, cond_both, ltb-true, lt-ltb, eqb-true}
 use Rattle.pages.specs.Pages.{entry}
 use Rattle.pages.specs.declared.WriteEntry.{WriteEntry}
@@ -12,6 +12,7 @@ use Rattle.script.specs.declared.Step.{Step}
 use Rattle.script.specs.Laws.{leaves_out}
 use Rattle.serial.specs.declared.ReadEntry.{ReadEntry}
 use Rattle.serial.specs.Machine.{Meaning, Stand, written, write, holds, Effect, reading, writing, setting, leaving, does_action, effect, with_register, recorded, with_write, moved, off_pages, take_read, take_effect, takes, page_read, page_written, unless_own, from_store, store_read, write_of, has_written}
+use Rattle.serial.proofs.Table.{none_is_some}
 
 -- the read that a step records
 abbrev pub noted : ℕ → Option ℕ → List ReadEntry
@@ -32,17 +33,13 @@ written_more (e ∷ es) p w q =
     let same : e.page ≡ p = eqb-true e.page p h in
     ap (λ xs. has_written xs q) (cond-true (eqb e.page p) (entry p w ∷ es) (e ∷ write es p w) h) ∙ merged (eqb p q) (has_written es q) ∙ ap (λ x. (eqb x q || has_written es q) || eqb p q) (sym same))
     (λ (h : eqb e.page p ≡ false).
-    ap (λ xs. has_written xs q) (cond-false (eqb e.page p) (entry p w ∷ es) (e ∷ write es p w) h) ∙ ap (λ b. eqb e.page q || b) (written_more es p w q) ∙ regrouped (eqb e.page q) (has_written es q) (eqb p q))
+    ap (λ xs. has_written xs q) (cond-false (eqb e.page p) (entry p w ∷ es) (e ∷ write es p w) h) ∙ ap (λ b. eqb e.page q || b) (written_more es p w q) ∙ sym (or_assoc (eqb e.page q) (has_written es q) (eqb p q)))
     (cases_Bool (eqb e.page p))
   where
     merged : (a b : Bool) → (a || b) ≡ ((a || b) || a)
     merged true b = refl
     merged false true = refl
     merged false false = refl
-
-    regrouped : (a b c : Bool) → (a || (b || c)) ≡ ((a || b) || c)
-    regrouped true b c = refl
-    regrouped false b c = refl
 
 -- what a step comes to that moves the shadow: `sr` is the page of its store read, `wr` the page of its write, and it
 -- leaves out at most k steps
@@ -55,10 +52,7 @@ pub record Moves (pages : List ℕ) (s : Stand) (eff : Effect) (sr wr : Option �
   pub write_inside : (p : ℕ) → wr ≡ Some p → p < length pages
   pub frame : (pages' : List ℕ) → length pages' ≡ length pages → ((p : ℕ) → sr ≡ Some p → get_or pages' p 0 ≡ get_or pages p 0) → take_effect pages' s eff ≡ moved t
 
-none_some : (p : ℕ) {A : Type 0} → ◌≡◌ {A = Option ℕ} None (Some p) → A
-none_some p e = let z : ◌≡◌ {A = ℕ} 0 1 = cc in absurd (omega arith)
-
-off_moved : (p : ℕ) (t : Stand) {A : Type 0} → off_pages p ≡ moved t → A
+pub off_moved : (p : ℕ) (t : Stand) {A : Type 0} → off_pages p ≡ moved t → A
 off_moved p t e = let z : ◌≡◌ {A = ℕ} 0 1 = cc in absurd (omega arith)
 
 -- an effect with the pages that it reads and writes, and how many steps it leaves out at most
@@ -89,8 +83,8 @@ module _ (pages : List ℕ) (s : Stand) where
         near = omega arith;
         reads = sym (append-nil s.reads);
         own = quiet;
-        read_inside = λ q z. none_some q z;
-        write_inside = λ q z. none_some q z;
+        read_inside = λ q z. none_is_some q z;
+        write_inside = λ q z. none_is_some q z;
         frame = λ pages' long same. ap (take_read pages' s a p) held;
       })
   read_moves a p k None held t e =
@@ -105,7 +99,7 @@ module _ (pages : List ℕ) (s : Stand) where
         reads = refl;
         own = quiet;
         read_inside = λ q z. let y : p ≡ q = cc in omega arith;
-        write_inside = λ q z. none_some q z;
+        write_inside = λ q z. none_is_some q z;
         frame = λ pages' long same.
             ap (take_read pages' s a p) held
             ∙ cond-true (ltb p (length pages')) _ (off_pages p) (lt-ltb p (length pages') (omega arith))
@@ -125,7 +119,7 @@ module _ (pages : List ℕ) (s : Stand) where
         near = omega arith;
         reads = sym (append-nil s.reads);
         own = λ q. written_more s.own p w q;
-        read_inside = λ q z. none_some q z;
+        read_inside = λ q z. none_is_some q z;
         write_inside = λ q z. let y : p ≡ q = cc in omega arith;
         frame = λ pages' long same. cond-true (ltb p (length pages')) _ (off_pages p) (lt-ltb p (length pages') (omega arith));
       }))
@@ -149,8 +143,8 @@ module _ (pages : List ℕ) (s : Stand) where
         near = omega arith;
         reads = sym (append-nil s.reads);
         own = quiet;
-        read_inside = λ q z. none_some q z;
-        write_inside = λ q z. none_some q z;
+        read_inside = λ q z. none_is_some q z;
+        write_inside = λ q z. none_is_some q z;
         frame = λ pages' long same. refl;
       })))
   effect-moves (leaving n) pr pw k tied t e =
@@ -163,8 +157,8 @@ module _ (pages : List ℕ) (s : Stand) where
         near = omega arith;
         reads = sym (append-nil s.reads);
         own = quiet;
-        read_inside = λ q z. none_some q z;
-        write_inside = λ q z. none_some q z;
+        read_inside = λ q z. none_is_some q z;
+        write_inside = λ q z. none_is_some q z;
         frame = λ pages' long same. refl;
       })))
 

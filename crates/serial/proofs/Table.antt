@@ -138,12 +138,6 @@ count_dropped own (Some y ∷ cs) zero s h d =
 count_dropped own (None ∷ cs) (suc u) s h d = count_dropped own cs u s h d
 count_dropped own (Some y ∷ cs) (suc u) s h d = let a = count_one own y (remaining own cs) in let b = count_dropped own cs u s h d in omega arith
 
--- what remains at a place
-pub remaining_at : (own : List WriteEntry) (cs : Row) (u : ℕ) → get_or (remaining own cs) u None ≡ kept own (get_or cs u None)
-remaining_at own [] u = refl
-remaining_at own (c ∷ cs) zero = refl
-remaining_at own (c ∷ cs) (suc u) = remaining_at own cs u
-
 -- a shadow that remains was there and has read nothing on the list
 pub kept_was : (own : List WriteEntry) (o : Option Stand) (s : Stand) → kept own o ≡ Some s → (o ≡ Some s) × (has_read_any s.reads own ≡ false)
 kept_was own None s h = none_is_some s h
@@ -157,9 +151,6 @@ kept_was own (Some x) s h =
 
 pub kept-unread : (own : List WriteEntry) (s : Stand) → has_read_any s.reads own ≡ false → kept own (Some s) ≡ Some s
 kept-unread own s d = cond-false (has_read_any s.reads own) None (Some s) d
-
-pub kept_read : (own : List WriteEntry) (s : Stand) → has_read_any s.reads own ≡ true → kept own (Some s) ≡ None
-kept_read own s d = cond-true (has_read_any s.reads own) None (Some s) d
 
 -- the furthest of some shadows
 module _ (test : Stand → Bool) where

@@ -2,6 +2,7 @@
 use Rattle.std.proofs.Common.{◌≡◌, ℕ, zero, suc, ◌<◌, ◌≤◌, Bool, true, false, not, ◌&&◌, ◌||◌, eqb, leb, ◌≢◌, ◌⊎◌, List, [], ◌∷◌, get_or, is_some, Some, None, Option, sym, refl, ap, ◌∙◌, subst, inl, inr, ⊎_elim, arith}
 use Rattle.std.specs.List.{slice_get}
 use Rattle.std.proofs.Math.Bool.{and-false}
+use Rattle.std.proofs.lemmas.List.Folds.{list_any-append}
 use Rattle.std.proofs.lemmas.Bool.{cases_Bool, cases_eq, cond-true, cond-false, cond_both, and_parts, and_from, and_cases, or_cases, or_parts, or_from, not-true, not-false, not_from_false, eq-eqb, ne_eqb, eqb-false, leb-false, true≢false, both_ways}
 use Rattle.serial.specs.declared.ReadEntry.{ReadEntry}
 use Rattle.serial.specs.Machine.{Meaning, Steps, Stand, start, store_read, write_of, has_read, has_written, has_read_any}
@@ -9,7 +10,7 @@ use Rattle.serial.specs.Alone.{on_list}
 use Rattle.serial.specs.Laws.{Next, Leads, here, more}
 use Rattle.serial.specs.Rules.{Engine, slots, script_of, is_open, row, shadow, with_shadow, own_of, reads_of, place_of, lead_writes, count, has_room, account, read_conflict, account_read, account_reads, write_conflict, account_write, account_writes, before_step, after_step, lead_moves, shadow_moves, waits}
 use Rattle.serial.proofs.Steps.{noted}
-use Rattle.serial.proofs.Runs.{stepped, next_same, leads-rises, leads_snoc, reached_later, read_any_append}
+use Rattle.serial.proofs.Runs.{stepped, next_same, leads-rises, leads_snoc, reached_later}
 use Rattle.serial.proofs.Table.{none_is_some, some_is, none_is, there-within, Sized, shadow-within, row_put, row_put_other, shadow_put, shadow_put_place, shadow_put_row, sized_put, count_set}
 use Rattle.serial.proofs.Conflicts.{read_named, read_any_more, read_named_shrinks, noted_any}
 use Rattle.serial.proofs.Kept.{Exempt, no_exempt, RowInv, Inv, row_like, fork_inv, accounted, account_inv, account-row, account-there, room_for_all}
@@ -32,6 +33,9 @@ in_slots (suc (suc (suc (suc (suc (suc (suc (suc u)))))))) l = absurd (omega ari
 
 pub open_within : (e : Engine) → Sized e → (u : ℕ) → is_open e u ≡ true → u < 8
 open_within e z u h = let o = some_is (script_of e u) h in let w = there-within e.scripts u o.0 o.1 in omega (arith, z.scripts)
+
+pub open_kept : (e e' : Engine) (u : ℕ) → e'.scripts ≡ e.scripts → is_open e u ≡ true → is_open e' u ≡ true
+open_kept e e' u same h = ap (λ xs. is_some (get_or xs u None)) same ∙ h
 
 module _ (ar : Meaning) (pages : List ℕ) where
   -- nothing is promised of a closed slot's shadows, for it has none
@@ -108,9 +112,6 @@ module _ (ar : Meaning) (pages : List ℕ) where
       ap (λ z. is_some (shadow z t u)) (cond-true (read_conflict e t p u) (account e t u) e c)
       ∙ account-there ar pages no_exempt e i t u ne t_in u_in (room_for_all ar pages no_exempt e i t u ne t_in u_in k))
       (cases_Bool (is_some (shadow e t u)))
-
-  open_kept : (e e' : Engine) (u : ℕ) → e'.scripts ≡ e.scripts → is_open e u ≡ true → is_open e' u ≡ true
-  open_kept e e' u same h = ap (λ xs. is_some (get_or xs u None)) same ∙ h
 
   account_reads-kept : (us : List ℕ) (e : Engine) (t p : ℕ) → t < 8 → is_open e t ≡ true → Inv ar pages no_exempt e → Before e t (account_reads e t p us)
   account_reads-kept [] e t p t_in t_open i = before_same e t i
@@ -210,7 +211,7 @@ module _ (ar : Meaning) (pages : List ℕ) where
               let same : l' ≡ a = is_lead t a refl h in
               let o = store_read (slice_get sc l.step) l in
               let split : (has_read_any l.reads (lead_writes e w) || on_list (lead_writes e w) o) ≡ true =
-              sym (ap (λ b. has_read_any b.reads (lead_writes moved_on w)) (sym same) ∙ ap (has_read_any l'.reads) (other_writes w d) ∙ ap (λ rs. has_read_any rs (lead_writes e w)) x.move.reads ∙ read_any_append l.reads (noted l.step o) (lead_writes e w) ∙ ap (λ b. has_read_any l.reads (lead_writes e w) || b) (noted_any l.step o (lead_writes e w))) ∙ c in
+              sym (ap (λ b. has_read_any b.reads (lead_writes moved_on w)) (sym same) ∙ ap (has_read_any l'.reads) (other_writes w d) ∙ ap (λ rs. has_read_any rs (lead_writes e w)) x.move.reads ∙ list_any-append (λ r. has_written (lead_writes e w) r.page) l.reads (noted l.step o) ∙ ap (λ b. has_read_any l.reads (lead_writes e w) || b) (noted_any l.step o (lead_writes e w))) ∙ c in
               ap is_some (place w d) ∙ ⊎_elim
               (λ (q : has_read_any l.reads (lead_writes e w) ≡ true). r.covered m w l d lead refl q)
               (λ (q : on_list (lead_writes e w) o ≡ true). there m w d q)
@@ -455,7 +456,7 @@ module _ (ar : Meaning) (pages : List ℕ) where
       fork_inv ar pages no_exempt e i t u ne in_both.0 in_both.1 s' (ap is_some script) (r.for_open u s here_now) (record {
         reached = λ z h. let same : sc ≡ z = let m : Some sc ≡ Some z = sym script ∙ h in cc in subst (λ a. Leads ar a pages start s') same (leads_snoc ar sc pages s' s_reached step);
         behind = λ l h. let same : lead.0 ≡ l = let m : Some lead.0 ≡ Some l = sym lead.1 ∙ h in cc in subst (λ a. s'.step ≤ a.step) same (not_past lead.0 ahead below);
-        unread = ap (λ rs. has_read_any rs (lead_writes e u)) x.move.reads ∙ read_any_append s.reads (noted s.step o) (lead_writes e u) ∙ or_from (has_read_any s.reads (lead_writes e u)) (has_read_any (noted s.step o) (lead_writes e u)) (r.apart u s ne here_now refl) (noted_any s.step o (lead_writes e u) ∙ parts.1);
+        unread = ap (λ rs. has_read_any rs (lead_writes e u)) x.move.reads ∙ list_any-append (λ r. has_written (lead_writes e u) r.page) s.reads (noted s.step o) ∙ or_from (has_read_any s.reads (lead_writes e u)) (has_read_any (noted s.step o) (lead_writes e u)) (r.apart u s ne here_now refl) (noted_any s.step o (lead_writes e u) ∙ parts.1);
         room = subst (λ n. n ≤ e.allowance) (sym (count_set (row e t) u s s' here_now)) r.few;
       })
     where
@@ -465,7 +466,7 @@ module _ (ar : Meaning) (pages : List ℕ) where
       not_past l (more {t = m} h k) below = let same : m ≡ s' = next_same ar sc pages s m s' h step in let z : m.step ≡ s'.step = ap (λ a. a.step) same in let q = leads-rises ar sc pages k in omega arith
 
 -- accounting and moving leave scripts as they are
-account-scripts : (e : Engine) (t u : ℕ) → (account e t u).scripts ≡ e.scripts
+pub account-scripts : (e : Engine) (t u : ℕ) → (account e t u).scripts ≡ e.scripts
 account-scripts e t u = cond_both (has_room e t u) _ e (λ z. z.scripts ≡ e.scripts) (λ h. refl) (λ h. refl)
 
 account_reads-scripts : (us : List ℕ) (e : Engine) (t p : ℕ) → (account_reads e t p us).scripts ≡ e.scripts

@@ -2,6 +2,7 @@
 use Rattle.std.proofs.Common.{◌≡◌, ℕ, zero, suc, ◌+◌, ◌<◌, ◌≤◌, Bool, true, false, not, ◌&&◌, ◌||◌, eqb, ltb, leb, ◌≢◌, ◌⊎◌, List, [], ◌∷◌, length, get_or, is_some, Some, None, Ok, Err, Option, Result, unwrap_or, sym, refl, ap, ◌∙◌, subst, inl, inr, ⊎_elim, arith}
 use Rattle.std.specs.List.{slice_get}
 use Rattle.std.proofs.Math.Bool.{and-false}
+use Rattle.std.proofs.Math.ListN.{get_or-map}
 use Rattle.std.proofs.lemmas.Bool.{cases_Bool, cases_eq, cases_lt, cond-true, cond-false, cond_both, and_parts, and_from, or_cases, or_left, or_right, le-leb, ltb-true, lt-ltb, le-ltb, or_from, ltb-false, eqb-true, eqb-false, eq-eqb, not-true, not-false, not_from_true, not_from_false, true≢false, both_ways}
 use Rattle.pages.specs.declared.WriteEntry.{WriteEntry}
 use Rattle.script.specs.Script.{decoded}
@@ -15,11 +16,11 @@ use Rattle.serial.specs.Machine.{Meaning, Steps, Stand, start, Taken, moved, off
 use Rattle.serial.specs.Alone.{next}
 use Rattle.serial.specs.Rules.{Row, Engine, State, Done, slots, script_of, is_open, row, shadow, with_shadow, reads_of, own_of, lead_writes, ahead, better, furthest, furthest_of, any_shadow, clean, count, has_room, account, read_conflict, account_read, account_reads, write_conflict, account_write, account_writes, before_step, after_step, lead_moves, shadow_moves, standing, in_range, first_open, allow_closed, begin_with, turn_step, turn_standing, turn_shadow, turn_open, kept, remaining, committed, first_off, commit_puts, commit_open, abort_open, Call, set_allowance, begin, turn, commit, abort, does}
 use Rattle.serial.specs.Words.{Furthest, PicksFurthest, unread, CommitsSo, AccountsInWords, TurnsSo, CommitsInWords, TurnsInWords, DeclinedChangesNothing}
-use Rattle.serial.proofs.Table.{none_is_some, none_is, there-within, shadow-within, shadow_put, shadow_put_place, shadow_put_row, count_set, remaining_at, kept_was, kept-unread}
-use Rattle.serial.proofs.Turns.{open_within, moves-scripts}
+use Rattle.serial.proofs.Table.{none_is_some, none_is, there-within, shadow-within, shadow_put, shadow_put_place, shadow_put_row, count_set, kept_was, kept-unread}
+use Rattle.serial.proofs.Turns.{open_within, open_kept, moves-scripts}
 use Rattle.serial.proofs.Commits.{none_of, none_for, others_kept, lead_stays, lead_renewed, script-there, script_other}
 use Rattle.serial.proofs.Booking.{commit-leaves}
-use Rattle.serial.proofs.Sound.{ok_from, Holds, reads_stay, writes_stay, before_stays, open_same, put_ok, next_fits}
+use Rattle.serial.proofs.Sound.{ok_from, Holds, reads_stay, writes_stay, before_stays, put_ok, next_fits}
 
 -- places in the order in which they count: the leading one is looked at first, then all in slot order
 module _ (test : Stand → Bool) where
@@ -166,11 +167,11 @@ remaining-furthest : (own : List WriteEntry) (v : ℕ) (cs : Row) (o : Option St
 remaining-furthest own v cs None h = λ w y e.
     ⊎_elim
     (λ (r : has_read_any y.reads own ≡ true). not_from_true (has_read_any y.reads own) r)
-    (λ (r : has_read_any y.reads own ≡ false). absurd (true≢false (h w y (remaining_at own cs w ∙ ap (kept own) e ∙ kept-unread own y r))))
+    (λ (r : has_read_any y.reads own ≡ false). absurd (true≢false (h w y (get_or-map (kept own) cs w None ∙ ap (kept own) e ∙ kept-unread own y r))))
     (cases_Bool (has_read_any y.reads own))
 remaining-furthest own v cs (Some s) h =
-    let was = kept_was own (get_or cs h.0 None) s (sym (remaining_at own cs h.0) ∙ h.1) in
-    (h.0, was.0, not_from_false (has_read_any s.reads own) was.1, λ w y e p. h.3 w y (remaining_at own cs w ∙ ap (kept own) e ∙ kept-unread own y (not-true (has_read_any y.reads own) p)) refl)
+    let was = kept_was own (get_or cs h.0 None) s (sym (get_or-map (kept own) cs h.0 None) ∙ h.1) in
+    (h.0, was.0, not_from_false (has_read_any s.reads own) was.1, λ w y e p. h.3 w y (get_or-map (kept own) cs w None ∙ ap (kept own) e ∙ kept-unread own y (not-true (has_read_any y.reads own) p)) refl)
 
 commits_so : (e : Engine) → Holds e → (t : ℕ) → t < 8 → (own : List WriteEntry) → CommitsSo e t own (committed e t own)
 commits_so e o t t_in own = record {
@@ -232,8 +233,8 @@ reads-besides (u ∷ us) e t p o t_open v w d =
     let ne : w ≢ t = λ z. eqb-false u t (not-true (eqb u t) a.0) (sym r ∙ z) in
     d q ne (ap (is_open e) r ∙ b.0) (ap (shadow e t) r ∙ none_is (shadow e t u) (not-true (is_some (shadow e t u)) c.0)) (ap (λ m. has_written (lead_writes e m) p) r ∙ c.1)))
     (λ h. refl) in
-    reads-besides us e₁ t p one.ok (open_same e e₁ t one.scripts t_open) v w
-    (λ q ne w_open gone wrote. d q ne (open_same e₁ e w (sym one.scripts) w_open) (subst (λ m. shadow e m w ≡ None) q (sym same ∙ subst (λ m. shadow e₁ m w ≡ None) (sym q) gone)) (ap (λ z. has_written (own_of z) p) (sym (one.leads w)) ∙ wrote))
+    reads-besides us e₁ t p one.ok (open_kept e e₁ t one.scripts t_open) v w
+    (λ q ne w_open gone wrote. d q ne (open_kept e₁ e w (sym one.scripts) w_open) (subst (λ m. shadow e m w ≡ None) q (sym same ∙ subst (λ m. shadow e₁ m w ≡ None) (sym q) gone)) (ap (λ z. has_written (own_of z) p) (sym (one.leads w)) ∙ wrote))
     ∙ same
 
 -- a slot's shadow for t is not there, or has read the page
@@ -255,10 +256,10 @@ writes_besides (x ∷ vs) e t p o t_open v w d =
     account_other e o x t b.0 t_open v w (λ q r.
     d r (λ z. eqb-false x t (not-true (eqb x t) a.0) (sym q ∙ z)) (ap (is_open e) q ∙ b.0) (ap (λ m. has_read (reads_of (shadow e m m)) p) q ∙ c.0) (subst (Due e t p) (sym q) due)))
     (λ h. refl) in
-    writes_besides vs e₁ t p one.ok (open_same e e₁ t one.scripts t_open) v w
+    writes_besides vs e₁ t p one.ok (open_kept e e₁ t one.scripts t_open) v w
     (λ q ne v_open read due.
     let same_t : shadow e₁ v t ≡ shadow e v t = subst (λ m. shadow e₁ v m ≡ shadow e v m) q same in
-    d q ne (open_same e₁ e v (sym one.scripts) v_open) (ap (λ z. has_read (reads_of z) p) (sym (one.leads v)) ∙ read)
+    d q ne (open_kept e₁ e v (sym one.scripts) v_open) (ap (λ z. has_read (reads_of z) p) (sym (one.leads v)) ∙ read)
     (⊎_elim (λ (z : shadow e₁ v t ≡ None). inl (sym same_t ∙ z)) (λ (z : has_read (reads_of (shadow e₁ v t)) p ≡ true). inr (ap (λ y. has_read (reads_of y) p) (sym same_t) ∙ z)) due))
     ∙ same
 
@@ -326,7 +327,7 @@ lead_so ar st o t sc s to script lead step =
           (λ q ne v_open x. free refl (inr (
             q,
             ne,
-            open_same e₁ e v (sym b.scripts) v_open,
+            open_kept e₁ e v (sym b.scripts) v_open,
             (
               x.0,
               x.1,

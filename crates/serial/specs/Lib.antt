@@ -6,3 +6,4 @@ pub mod Rules
 pub mod Book
 pub mod Sound
 pub mod Words
+pub mod Shown

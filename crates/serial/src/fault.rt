@@ -1,7 +1,8 @@
 // Why a call is declined, and what calls answer.
-ghost use Rattle.std.specs.Prelude.{◌≡◌};
+ghost use Rattle.std.specs.Prelude.{◌≡◌, Some};
 ghost use Rattle.pages.specs.declared.StoreFault.{StoreFault};
 ghost use Rattle.serial.specs.Faults.{call_cause, call_returned, step_fault};
+ghost use Rattle.serial.specs.Shown.{turned_word, standing_word, accepted_words};
 ghost use Rattle.serial.specs.declared.fault.CallFault.TheVariants.{Undecoded, OffPages};
 
 use basics::Refusal;
@@ -17,7 +18,7 @@ pub struct StepFault {
     pub fault: StoreFault,
 }
 
-// The step code puts slot and step beside the store's fault.
+// The step code puts slot and step beside the store's fault, and the project wants this conversion of the three.
 impl From<(u32, usize, StoreFault)> for StepFault {
     ghost from_gives = { λ f r. r ≡ step_fault f.0 f.1 f.2 };
 
@@ -117,6 +118,8 @@ pub enum Turned {
 }
 
 impl fmt::Display for Turned {
+    ghost output = { λ x. Some (turned_word x) };
+
     fn fmt<W: fmt::Write>(&self, f: &mut fmt::Formatter<W>) -> fmt::Result {
         f.write_str(match self {
             Turned::Moved => "moved",
@@ -135,6 +138,8 @@ pub enum Standing {
 }
 
 impl fmt::Display for Standing {
+    ghost output = { λ x. Some (standing_word x) };
+
     fn fmt<W: fmt::Write>(&self, f: &mut fmt::Formatter<W>) -> fmt::Result {
         f.write_str(match self {
             Standing::AtEnd => "ended",
@@ -153,6 +158,20 @@ pub enum Accepted {
     // register 0 and the number of pages put
     Committed(u32, usize),
     Aborted,
+}
+
+impl fmt::Display for Accepted {
+    ghost output = { λ x. Some (accepted_words x) };
+
+    fn fmt<W: fmt::Write>(&self, f: &mut fmt::Formatter<W>) -> fmt::Result {
+        match self {
+            Accepted::Allowed => f.write_str("allowed"),
+            Accepted::Begun => f.write_str("begun"),
+            Accepted::Took(turned) => write!(f, "{turned}"),
+            Accepted::Committed(word, pages) => write!(f, "committed {word} {pages}"),
+            Accepted::Aborted => f.write_str("aborted"),
+        }
+    }
 }
 
 // What one of the five calls answers.

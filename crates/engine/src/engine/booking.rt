@@ -12,7 +12,7 @@ use pages::Store;
 use serial::{Accepted, Answer};
 
 // One of the five calls, with its arguments.
-#[derive(Clone, Copy)]
+#[derive(Clone, Copy, PartialEq, Eq, Debug)]
 pub enum Call<'a> {
     SetAllowance { allowance: u32 },
     Begin { slot: u32, script: &'a [u8] },
@@ -39,7 +39,7 @@ impl Engine {
             Call::Begin { slot, script } => self.begin(*slot, script).map(|()| Accepted::Begun),
             Call::Turn { slot, other } => self
                 .turn(*slot, *other, store, arithmetic)
-                .map(|turned| Accepted::Took(turned)),
+                .map(Accepted::Took),
             Call::Commit { slot } => self
                 .commit(*slot, store)
                 .map(|(word, pages)| Accepted::Committed(word, pages)),

@@ -1,10 +1,7 @@
 // The five calls.
 ghost use Rattle.std.specs.Prelude.{◌≡◌, ℕ, List, length, None, OnErr};
-ghost use Rattle.std.specs.Option.{unwrap_or};
 ghost use Rattle.serial.specs.declared.fault.Accepted.TheVariants.{Allowed, Begun, Took, Aborted};
-ghost use Rattle.serial.specs.Machine.{start as started};
-ghost use Rattle.serial.specs.Rules.{fresh_engine, shadow as shadow_at, lead_writes, first_off, allows, begins, turns, commits, aborts};
-ghost use Rattle.engine.specs.View.{stand_of};
+ghost use Rattle.serial.specs.Rules.{fresh_engine, lead_writes, first_off, allows, begins, turns, commits, aborts};
 ghost use Rattle.engine.specs.Table.{engine_of};
 ghost use Rattle.engine.specs.Alone.{Inside};
 ghost use Rattle.engine.specs.Calls.{state_of, answers_by, committing, PutsList};
@@ -12,20 +9,12 @@ ghost use Rattle.engine.specs.Calls.{state_of, answers_by, committing, PutsList}
 use super::Engine;
 use crate::alone::put_all;
 use crate::machine::Machine;
-use crate::shadow::Shadow;
 use crate::slot::Slot;
 use crate::table::Table;
 use arithmetic::Arithmetic;
 use pages::{Reader, Store, StoreFault, WriteEntry};
 use script::{Register, decode};
 use serial::{CallFault, Standing, Turned};
-
-// The leading shadow of an open slot.
-fn lead_of(table: &Table, t: Slot) -> Shadow
-    ensures { stand_of result ≡ unwrap_or (shadow_at (engine_of table.now) t t) started }
-{
-    table.shadow(t, t).unwrap_or(Shadow::start())
-}
 
 // The first page of a list that is not below the size.
 fn first_missing(own: &[WriteEntry], size: u32) -> Option<u32>
@@ -101,7 +90,7 @@ impl Engine {
     }
 
     // Puts the list of a slot's leading shadow, at its end, and closes the slot. Answers register 0 and the number of pages
-    // put.
+    // put, as the pair that the project wants.
     pub fn commit<S: Store>(&mut self, slot: u32, store: &mut S) -> Result<(u32, usize), CallFault>
         ensures rule { commits (state_of self.old (S.Reader.pages store.old)) slot ≡ (state_of self.new (S.Reader.pages store.new), answers_by committing result) }
         ensures puts { PutsList S.Store.wrote (lead_writes (engine_of self.old.table) slot) store.old result store.new }
@@ -109,7 +98,7 @@ impl Engine {
     {
         let t = Slot::try_from(slot)?;
         let script = self.table.script(t).ok_or(CallFault::NotOpen(slot))?;
-        let lead = lead_of(&self.table, t);
+        let lead = self.table.lead(t);
         if lead.step() < script.len() {
             return Err(CallFault::NotEnded(lead.step()));
         }

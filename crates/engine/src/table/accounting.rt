@@ -58,7 +58,7 @@ impl Table {
         ensures { engine_of self.new ≡ accounted (engine_of self.old) t u }
     {
         if self.has_room(t, u) {
-            let copy = self.furthest_for(t, u).unwrap_or(Shadow::start());
+            let copy = self.furthest_for(t, u).unwrap_or_else(Shadow::start);
             self.put_shadow(t, u, Some(copy));
         }
     }
@@ -87,7 +87,8 @@ impl Table {
         }
     }
 
-    // Whether a write of the page by t's leading shadow conflicts with slot v, which has not guessed it.
+    // Whether a write of the page by t's leading shadow conflicts with slot v, which has not guessed it. Reads and writes have
+    // calls of their own, down to this one: their rules differ, and at a write v forks for t.
     fn write_conflict(&self, t: Slot, page: u32, v: Slot) -> bool
         ensures { result ≡ write_conflict (engine_of self.now) t page v }
     {

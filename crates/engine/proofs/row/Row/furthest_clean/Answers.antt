@@ -1,16 +1,10 @@
 use Rattle.std.proofs.Common.{◌+◌, drop, None, sym, ap, ◌∙◌, arith}
 use Rattle.std.specs.Option.{option_map}
-use Rattle.serial.specs.Rules.{better, furthest}
+use Rattle.serial.specs.Rules.{furthest}
 use Rattle.engine.specs.View.{stand_of}
 use Rattle.engine.specs.Table.{unread}
-use Rattle.engine.proofs.Rows.{view, more_at_map, all_at_map}
+use Rattle.engine.proofs.Rows.{view, more_at_map}
 use Rattle.engine.proofs.row.Row.furthest_clean.Goals as goal
-
-pub loop-entry-init : goal.loop-entry-init
-loop-entry-init c =
-    let all = c.args.self.now.entries in
-    let test = unread c.args.list.now in
-    ap (λ b. furthest test b (view all)) (c.better-best.ensures ∙ ap (better test None) c.get.ensures)
 
 pub loop-entry-preserved : goal.loop-entry-preserved
 loop-entry-preserved c =
@@ -19,11 +13,4 @@ loop-entry-preserved c =
     let test = unread c.args.list.now in
     ap (λ b. furthest test b (drop (i + 1) (view all))) c.better-best-in-loop-entry.ensures
     ∙ sym (more_at_map (option_map stand_of) (furthest test (option_map stand_of c.loop-entry.best)) None all i (omega arith))
-    ∙ c.loop-entry.invariant
-
-pub returns : goal.returns
-returns c =
-    let all = c.args.self.now.entries in
-    let test = unread c.args.list.now in
-    sym (all_at_map (option_map stand_of) (furthest test (option_map stand_of c.loop-entry.best)) all c.loop-entry.entry-index (omega arith))
     ∙ c.loop-entry.invariant

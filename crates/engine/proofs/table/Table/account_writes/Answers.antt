@@ -4,9 +4,6 @@ use Rattle.engine.specs.Table.{engine_of}
 use Rattle.engine.proofs.Accounts.{slots_more, slots_all}
 use Rattle.engine.proofs.table.Table.account_writes.Goals as goal
 
-pub loop-v-init : goal.loop-v-init
-loop-v-init c = refl
-
 pub loop-v-preserved : goal.loop-v-preserved
 loop-v-preserved c =
     slots_more (λ e. account_writes e c.args.t c.args.page) (λ e. account_write e c.args.t c.args.page) (λ e u us. refl) (engine_of c.loop-v.self) c.loop-v.v-index _ c.loop-v.invariant

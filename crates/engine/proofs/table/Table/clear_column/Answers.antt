@@ -1,8 +1,9 @@
 use Rattle.std.proofs.Common.{get_or, refl, ◌∙◌, arith}
 use Rattle.serial.specs.Rules.{cleared}
 use Rattle.engine.specs.Table.{script_held, row_held}
-use Rattle.engine.proofs.Rows.{over_more, over_all}
-use Rattle.engine.proofs.Tables.{no_held, with_row, unseen, same_engine}
+use Rattle.engine.proofs.Rows.{over_more}
+use Rattle.std.proofs.Math.Seq.{map-set_same}
+use Rattle.engine.proofs.Tables.{no_held, with_row}
 use Rattle.engine.proofs.table.Table.clear_column.Goals as goal
 
 pub loop-held-preserved : goal.loop-held-preserved
@@ -12,10 +13,5 @@ loop-held-preserved c =
     let h = with_row (get_or items i no_held) c.put.new.self in
     record {
       rows = over_more row_held (cleared c.args.t) c.args.self.now.slots i no_held items h (omega arith) c.loop-held.auto.held-items c.loop-held.invariant.rows c.put.ensures;
-      scripts = unseen script_held items i h refl ∙ c.loop-held.invariant.scripts;
+      scripts = map-set_same script_held items i h no_held refl ∙ c.loop-held.invariant.scripts;
     }
-
-pub returns : goal.returns
-returns c =
-    same_engine refl c.loop-held.invariant.scripts
-    (c.loop-held.invariant.rows ∙ over_all row_held (cleared c.args.t) c.args.self.now.slots c.loop-held.held-index (omega arith))

@@ -1,10 +1,5 @@
-use Rattle.engine.proofs.Turns.{row-there, row_room, row_steps}
+use Rattle.engine.proofs.Turns.{row_steps}
 use Rattle.engine.proofs.table.Table.step.Goals as goal
-
-pub step-requires : goal.step-requires
-step-requires g c =
-    rw c.index.ensures.place
-    (record { there = row-there c.args.self.now c.args.t c.args.u c.requires.there; room = row_room c.args.self.now c.args.t c.args.u c.requires.room })
 
 pub returns : goal.returns
 returns g c =
