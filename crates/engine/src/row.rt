@@ -28,10 +28,9 @@ fn is_ahead(shadow: &Shadow, best: Option<Shadow>) -> bool
 fn better(best: Option<Shadow>, other: Option<Shadow>, list: &[WriteEntry]) -> Option<Shadow>
     ensures { option_map stand_of result ≡ better_of (unread list.now) (option_map stand_of best) (option_map stand_of other) }
 {
-    match other {
-        Some(shadow) if !shadow.has_read_any(list) && is_ahead(&shadow, best) => other,
-        _ => best,
-    }
+    other
+        .filter(|shadow| !shadow.has_read_any(list) && is_ahead(shadow, best))
+        .or(best)
 }
 
 // A shadow, unless it has read a page of the list.
@@ -138,6 +137,7 @@ impl Row {
     {
         match &mut self.entries[u.index()] {
             Some(shadow) => shadow.take_step(step, machine),
+            // Tried as `as_mut` and `unwrap`: the check does not find that the shadow is back in its place.
             None => unreachable!(),
         }
     }

@@ -79,6 +79,7 @@ pub fn decode(bytes: &[u8]) -> Result<Script, ScriptFault>
 {
     let n = fit_size(bytes).ok_or(ScriptFault::Unfit(bytes.len()))?;
     let mut steps = Trail::new(UNUSED);
+    // The project wants this loop over the code bytes with their index, so an operand's place is worked out from that.
     for (i, code) in bytes[1..1 + n].iter().enumerate() {
         let step = decode_step(bytes, n, i, *code).ok_or(ScriptFault::Undefined(i))?;
         steps.push(step).unwrap();

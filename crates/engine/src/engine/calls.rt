@@ -9,7 +9,7 @@ ghost use Rattle.engine.specs.Calls.{state_of, answers_by, committing, PutsList}
 use super::Engine;
 use crate::alone::put_all;
 use crate::machine::Machine;
-use crate::slot::Slot;
+use crate::slot::{SLOTS, Slot};
 use crate::table::Table;
 use arithmetic::Arithmetic;
 use pages::{Reader, Store, StoreFault, WriteEntry};
@@ -42,7 +42,7 @@ impl Engine {
         ensures rule { (pages : List ℕ) → allows (state_of self.old pages) k ≡ (state_of self.new pages, answers_by (λ _. Allowed) result) }
         ensures declined { OnErr result (self.new.table ≡ self.old.table) }
     {
-        if k < 1 || k > 8 {
+        if k < 1 || k > SLOTS as u32 {
             return Err(CallFault::BadAllowance(k));
         }
         if let Some(slot) = self.table.first_open() {
