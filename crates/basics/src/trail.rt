@@ -8,7 +8,8 @@ ghost use Rattle.basics.specs.Trail.{items_of, pushed, push_told};
 pub struct Full;
 
 // At most `N` items, with their number beside them: a controller has no heap, and a copy of a record has no other form. What
-// lies past them is never spoken of. An invariant or a model would forbid the derived copy, so no call looks past `N`.
+// lies past them is never spoken of. On a generic list an invariant or a model would forbid the derived copy, so no call
+// looks past `N`.
 #[derive(Clone, Copy, Debug)]
 pub struct Trail<T, const N: usize> {
     items: [T; N],

@@ -73,7 +73,7 @@ impl Row {
     pub(crate) fn furthest_clean(&self, t: Slot, list: &[WriteEntry]) -> Option<Shadow>
         ensures { option_map stand_of result ≡ furthest_of (unread list.now) t (row_of self.now) }
     {
-        // A `for`: of `better` only the view of its answer is known, and a fold's proof asks for a function.
+        // A `for`, tried as a `fold`: of `better` only the view of its answer is known, and a fold's proof asks for a function.
         let mut best = better(None, self.get(t), list);
         for entry in &self.entries {
             best = better(best, *entry, list);
@@ -92,7 +92,7 @@ impl Row {
     pub(crate) fn drop_readers(&mut self, own: &[WriteEntry])
         ensures { row_of self.new ≡ remaining own.now (row_of self.old) }
     {
-        // As a slice, whose length a proof keeps, and no `map`: of `keep` too only the view of its answer is known.
+        // As a slice, whose length a proof keeps. Tried as `map`: of `keep` too only the view of its answer is known.
         for entry in &mut self.entries[..] {
             *entry = keep(*entry, own);
         }

@@ -35,7 +35,8 @@ pub(crate) struct Session {
     // the allowance of the engine, which does not tell it
     allowance: u32,
     pub(crate) book: Book,
-    // whether the scenario has asked anything of the engine: a flag, since a question leaves no other trace
+    // whether the scenario has called the engine, or asked of it or of the book: a flag, since most questions leave no
+    // other trace
     pub(crate) uses_engine: bool,
     pub(crate) committed: usize,
     pub(crate) spoils: Spoils,
