@@ -135,10 +135,9 @@ impl Row {
         requires room { Room (unwrap_or (slice_index_or (row_of self.old) u None) started) }
         ensures { Lent self.old u (takes (A.Arithmetic.meaning machine.now.arithmetic.now) (R.Reader.pages machine.now.reader.now) step.now (unwrap_or (slice_index_or (row_of self.old) u None) started)) result self.new }
     {
-        match &mut self.entries[u.index()] {
-            Some(shadow) => shadow.take_step(step, machine),
-            // Tried as `as_mut` and `unwrap`: the check does not find that the shadow is back in its place.
-            None => unreachable!(),
-        }
+        self.entries[u.index()]
+            .as_mut()
+            .unwrap()
+            .take_step(step, machine)
     }
 }

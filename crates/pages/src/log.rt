@@ -111,11 +111,9 @@ impl<'a> Log<'a> {
     fn layout_with(&self, page: u32) -> Result<Layout, StoreFault>
         ensures { MatchResult result (λ l. (layout_of self.now.words.now ≡ Some l) × (page < l.size)) (λ f. (f ≡ fault_at page) × (length (log_pages self.now.words.now) ≤ page)) }
     {
-        // Tried as `filter` and `ok_or`: the check does not find the clause.
-        match self.layout {
-            Some(layout) if page < layout.size => Ok(layout),
-            _ => Err(StoreFault { page }),
-        }
+        self.layout
+            .filter(|layout| page < layout.size)
+            .ok_or(StoreFault { page })
     }
 }
 
