@@ -11,6 +11,7 @@ abbrev pub kind_pages : Kind → List ℕ → List ℕ
 kind_pages Flat = flat_pages
 kind_pages Log = log_pages
 
+-- and of a memory, which has both
 abbrev pub memory_pages : Memory → List ℕ
 memory_pages m = kind_pages m.kind (vec_items m.words)
 

@@ -31,6 +31,7 @@ register (suc zero) = R1
 register (suc (suc zero)) = R2
 register (suc (suc (suc n))) = R3
 
+-- a register's place among the four
 abbrev pub index : Register → ℕ
 index R0 = 0
 index R1 = 1

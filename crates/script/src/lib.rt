@@ -57,6 +57,7 @@ pub struct Step {
 // No script has more steps than these.
 pub const MOST_STEPS: usize = 16;
 
+// A decoded script.
 #[derive(Clone, Copy, Debug)]
 pub struct Script {
     steps: Trail<Step, MOST_STEPS>,
