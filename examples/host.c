@@ -26,7 +26,8 @@ typedef struct store {
     bool log;
 } store;
 
-static gorsepick_engine engine;
+static gorsepick_memory memory; /* where the engine lies */
+static gorsepick_engine engine = {&memory};
 static store plant; /* the store that the calls go to */
 static store book;  /* the pages as the serial book has them */
 static bool flags = GORSEPICK_COUNTERS;
@@ -145,7 +146,9 @@ static void book_commit(uint32_t slot)
 {
     if (!begun[slot])
         return;
-    gorsepick_engine alone = gorsepick_fresh();
+    gorsepick_memory room;
+    gorsepick_fresh(&room);
+    gorsepick_engine alone = {&room};
     gorsepick_begin(&alone, 0, begun[slot]->bytes, begun[slot]->length);
     while (gorsepick_turn(&alone, 0, 0, book.words, book.length, book.log, flags).values[0] == GORSEPICK_MOVED)
         ;
@@ -309,7 +312,7 @@ int main(int count, char **arguments)
         fprintf(stderr, "host FILE: carries out the scenario in FILE through the linked engine\n");
         return 1;
     }
-    if (gorsepick_engine_size() != sizeof engine) {
+    if (gorsepick_engine_size() != sizeof memory) {
         fprintf(stderr, "the header and the library are not of one version\n");
         return 1;
     }
@@ -318,7 +321,7 @@ int main(int count, char **arguments)
         perror(arguments[1]);
         return 1;
     }
-    engine = gorsepick_fresh();
+    gorsepick_fresh(&memory);
     while (fgets(line, sizeof line, file)) {
         line_number++;
         carry_out(line);

@@ -179,7 +179,7 @@ impl Host {
         })
     }
 
-    fn question(&self, command: &str, words: &mut Words) -> Result<String, String> {
+    fn question(&mut self, command: &str, words: &mut Words) -> Result<String, String> {
         if command == "shadows" {
             let places = (0..SLOTS * SLOTS).map(|i| self.engine.stand(i / SLOTS, i % SLOTS));
             return Ok(format!("{} shadows", places.filter(|answer| answer.refusal == 0).count()));

@@ -1,12 +1,14 @@
 /* Gorsepick for C: a transaction engine for up to eight transactions over pages of 32-bit words.
  *
- * Link it with the static library that `rt staticlib linked` writes, target/staticlib/liblinked.a. Every function here is
+ * Link it with the static library that tools/build-linked writes, target/staticlib/liblinked.a. Every function here is
  * proved: what its comment promises is its contract in crates/linked/src, for every engine, every memory and every number
  * that a host can pass. docs/LINKING.md says how to build, and what the rules are is in docs/ENGINE.md.
  *
  * What the proof takes on trust from a host in C, since no compiler checks it:
- *   - an engine's memory comes from gorsepick_fresh, or is a copy of memory that did, and nothing but these functions has
- *     written to it since. Its contents are of no account to a host, and a host that scribbles over it has no promise left;
+ *   - gorsepick_fresh is given room for an engine;
+ *   - an engine that any other function is given leads to memory in which gorsepick_fresh made an engine, or to a copy of
+ *     such memory, and nothing but these functions has written to it since. Its contents are of no account to a host, and a
+ *     host that scribbles over it has no promise left;
  *   - a pointer with a length beside it leads to that many readable elements (writable ones where it is not const), and is
  *     not null even where the length is 0;
  *   - the memory behind two pointers of one call does not overlap, and no other thread uses it during the call;
@@ -27,10 +29,16 @@
 extern "C" {
 #endif
 
-/* An engine: eight slots with their scripts and shadows. A plain value; copy it, keep many, put it where you like. */
-#define GORSEPICK_ENGINE_WORDS 2521
+/* Room for an engine: eight slots with their scripts and shadows. Its contents are plain data, with no pointers among them:
+ * copy it, keep many, put it where you like. */
+#define GORSEPICK_ENGINE_WORDS 3601
+typedef struct gorsepick_memory {
+    uint64_t words[GORSEPICK_ENGINE_WORDS];
+} gorsepick_memory;
+
+/* An engine, by where it lies. No function changes `at`. */
 typedef struct gorsepick_engine {
-    uint64_t memory[GORSEPICK_ENGINE_WORDS];
+    gorsepick_memory *at;
 } gorsepick_engine;
 
 /* What a call answers. `refusal` is 0 where the call was accepted, else the number of the refusal. `count` says how many of
@@ -69,12 +77,12 @@ enum { GORSEPICK_AT_END = 0, GORSEPICK_HALTED = 1, GORSEPICK_READY = 2 };
 #define GORSEPICK_COUNTERS false
 #define GORSEPICK_FLAGS true
 
-/* The size of an engine in bytes, as the library has it: equal to sizeof(gorsepick_engine), or header and library are not
+/* The size of an engine in bytes, as the library has it: equal to sizeof(gorsepick_memory), or header and library are not
  * of one version. */
 size_t gorsepick_engine_size(void);
 
-/* A fresh engine: allowance 2, all slots closed. */
-gorsepick_engine gorsepick_fresh(void);
+/* Makes a fresh engine, with allowance 2 and all slots closed, whatever lay there before. */
+void gorsepick_fresh(gorsepick_memory *at);
 
 /* The five calls. Each does to the engine and the pages exactly what docs/ENGINE.md says, and answers exactly that. */
 
@@ -96,15 +104,15 @@ gorsepick_answer gorsepick_commit(gorsepick_engine *engine, uint32_t slot, uint3
 /* Closes the slot. Refused: 1, 7. Answers no value. */
 gorsepick_answer gorsepick_abort(gorsepick_engine *engine, uint32_t slot);
 
-/* The two questions. They change nothing. */
+/* The two questions. They change nothing, and want the engine to themselves as the calls do. */
 
 /* Answers the shadow's step, and what its next turn would find: GORSEPICK_AT_END, GORSEPICK_HALTED or GORSEPICK_READY.
  * Refused: 1, 7, 8. */
-gorsepick_answer gorsepick_stand(const gorsepick_engine *engine, uint32_t slot, uint32_t other);
+gorsepick_answer gorsepick_stand(gorsepick_engine *engine, uint32_t slot, uint32_t other);
 
 /* Answers the step and the page of the shadow's recorded read with this index, counted from 0, or no value where there is
  * none. Refused: 1, 7, 8. */
-gorsepick_answer gorsepick_read_entry(const gorsepick_engine *engine, uint32_t slot, uint32_t other, size_t index);
+gorsepick_answer gorsepick_read_entry(gorsepick_engine *engine, uint32_t slot, uint32_t other, size_t index);
 
 /* The pages of a store in host memory. A flat store has the words as its pages; over more than 4,096 its size is 0. A log
  * store has the layout of docs/PAGES.md; over words that are not sound its size is 0. */

@@ -4,13 +4,19 @@
 #![allow(dead_code)]
 
 /// GORSEPICK_ENGINE_WORDS of the header.
-const ENGINE_WORDS: usize = 2521;
+const ENGINE_WORDS: usize = 3601;
 
-/// An engine: eight slots with their scripts and shadows. A plain value.
+/// An engine's memory: eight slots with their scripts and shadows. A plain value, and so is a copy of it.
 #[repr(C)]
 #[derive(Clone, Copy)]
 pub struct Engine {
-    memory: [u64; ENGINE_WORDS],
+    words: [u64; ENGINE_WORDS],
+}
+
+/// The engine of the header: where it lies.
+#[repr(C)]
+struct Handle {
+    at: *mut Engine,
 }
 
 /// What a call answers: 0 or the number of a refusal, and how many of the values count.
@@ -23,15 +29,15 @@ pub struct Answer {
 }
 
 mod library {
-    use super::{Answer, Engine};
+    use super::{Answer, Engine, Handle};
 
     extern "C" {
         pub fn gorsepick_engine_size() -> usize;
-        pub fn gorsepick_fresh() -> Engine;
-        pub fn gorsepick_set_allowance(engine: *mut Engine, allowance: u32) -> Answer;
-        pub fn gorsepick_begin(engine: *mut Engine, slot: u32, script: *const u8, length: usize) -> Answer;
+        pub fn gorsepick_fresh(at: *mut Engine);
+        pub fn gorsepick_set_allowance(engine: *mut Handle, allowance: u32) -> Answer;
+        pub fn gorsepick_begin(engine: *mut Handle, slot: u32, script: *const u8, length: usize) -> Answer;
         pub fn gorsepick_turn(
-            engine: *mut Engine,
+            engine: *mut Handle,
             slot: u32,
             other: u32,
             words: *mut u32,
@@ -39,10 +45,10 @@ mod library {
             log: bool,
             flags: bool,
         ) -> Answer;
-        pub fn gorsepick_commit(engine: *mut Engine, slot: u32, words: *mut u32, length: usize, log: bool) -> Answer;
-        pub fn gorsepick_abort(engine: *mut Engine, slot: u32) -> Answer;
-        pub fn gorsepick_stand(engine: *const Engine, slot: u32, other: u32) -> Answer;
-        pub fn gorsepick_read_entry(engine: *const Engine, slot: u32, other: u32, index: usize) -> Answer;
+        pub fn gorsepick_commit(engine: *mut Handle, slot: u32, words: *mut u32, length: usize, log: bool) -> Answer;
+        pub fn gorsepick_abort(engine: *mut Handle, slot: u32) -> Answer;
+        pub fn gorsepick_stand(engine: *mut Handle, slot: u32, other: u32) -> Answer;
+        pub fn gorsepick_read_entry(engine: *mut Handle, slot: u32, other: u32, index: usize) -> Answer;
         pub fn gorsepick_size(words: *mut u32, length: usize, log: bool) -> u32;
         pub fn gorsepick_read(words: *mut u32, length: usize, log: bool, page: u32, word: *mut u32) -> bool;
         pub fn gorsepick_put(words: *mut u32, length: usize, log: bool, page: u32, word: u32) -> bool;
@@ -64,35 +70,42 @@ pub fn check_version() -> Result<(), String> {
 
 impl Engine {
     pub fn fresh() -> Engine {
-        unsafe { library::gorsepick_fresh() }
+        let mut engine = Engine { words: [0; ENGINE_WORDS] };
+        unsafe { library::gorsepick_fresh(&mut engine) };
+        engine
+    }
+
+    #[inline(always)]
+    fn handle(&mut self) -> Handle {
+        Handle { at: self }
     }
 
     pub fn set_allowance(&mut self, allowance: u32) -> Answer {
-        unsafe { library::gorsepick_set_allowance(self, allowance) }
+        unsafe { library::gorsepick_set_allowance(&mut self.handle(), allowance) }
     }
 
     pub fn begin(&mut self, slot: u32, script: &[u8]) -> Answer {
-        unsafe { library::gorsepick_begin(self, slot, script.as_ptr(), script.len()) }
+        unsafe { library::gorsepick_begin(&mut self.handle(), slot, script.as_ptr(), script.len()) }
     }
 
     pub fn turn(&mut self, slot: u32, other: u32, words: &mut [u32], log: bool, flags: bool) -> Answer {
-        unsafe { library::gorsepick_turn(self, slot, other, words.as_mut_ptr(), words.len(), log, flags) }
+        unsafe { library::gorsepick_turn(&mut self.handle(), slot, other, words.as_mut_ptr(), words.len(), log, flags) }
     }
 
     pub fn commit(&mut self, slot: u32, words: &mut [u32], log: bool) -> Answer {
-        unsafe { library::gorsepick_commit(self, slot, words.as_mut_ptr(), words.len(), log) }
+        unsafe { library::gorsepick_commit(&mut self.handle(), slot, words.as_mut_ptr(), words.len(), log) }
     }
 
     pub fn abort(&mut self, slot: u32) -> Answer {
-        unsafe { library::gorsepick_abort(self, slot) }
+        unsafe { library::gorsepick_abort(&mut self.handle(), slot) }
     }
 
-    pub fn stand(&self, slot: u32, other: u32) -> Answer {
-        unsafe { library::gorsepick_stand(self, slot, other) }
+    pub fn stand(&mut self, slot: u32, other: u32) -> Answer {
+        unsafe { library::gorsepick_stand(&mut self.handle(), slot, other) }
     }
 
-    pub fn read_entry(&self, slot: u32, other: u32, index: usize) -> Answer {
-        unsafe { library::gorsepick_read_entry(self, slot, other, index) }
+    pub fn read_entry(&mut self, slot: u32, other: u32, index: usize) -> Answer {
+        unsafe { library::gorsepick_read_entry(&mut self.handle(), slot, other, index) }
     }
 }
 

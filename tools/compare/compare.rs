@@ -130,7 +130,7 @@ impl Pair {
         agree(|| format!("the word of page {page}"), proved_word, plain_word)
     }
 
-    fn check_shadows(&self, strange: bool) -> Result<(), Difference> {
+    fn check_shadows(&mut self, strange: bool) -> Result<(), Difference> {
         let named = 0..SLOTS as u32;
         let unnamed = STRANGE.into_iter().filter(|_| strange);
         for slot in named.clone().chain(unnamed.clone()) {
@@ -141,7 +141,7 @@ impl Pair {
         Ok(())
     }
 
-    fn check_shadow(&self, slot: u32, other: u32, strange: bool) -> Result<(), Difference> {
+    fn check_shadow(&mut self, slot: u32, other: u32, strange: bool) -> Result<(), Difference> {
         let (proved, plain) = (self.proved.stand(slot, other), self.plain.stand(slot, other));
         agree(|| format!("the answer to stand {slot} {other}"), proved, plain)?;
         let mut index = 0;
@@ -155,7 +155,7 @@ impl Pair {
     }
 
     /// Whether there is such an entry.
-    fn check_entry(&self, slot: u32, other: u32, index: usize) -> Result<bool, Difference> {
+    fn check_entry(&mut self, slot: u32, other: u32, index: usize) -> Result<bool, Difference> {
         let proved = self.proved.read_entry(slot, other, index);
         let plain = self.plain.read_entry(slot, other, index);
         agree(|| format!("the answer to entry {slot} {other} {index}"), proved, plain)?;

@@ -38,8 +38,8 @@ pub trait Interface: Copy {
     fn turn(&mut self, slot: u32, other: u32, words: &mut [u32], log: bool, flags: bool) -> Answer;
     fn commit(&mut self, slot: u32, words: &mut [u32], log: bool) -> Answer;
     fn abort(&mut self, slot: u32) -> Answer;
-    fn stand(&self, slot: u32, other: u32) -> Answer;
-    fn read_entry(&self, slot: u32, other: u32, index: usize) -> Answer;
+    fn stand(&mut self, slot: u32, other: u32) -> Answer;
+    fn read_entry(&mut self, slot: u32, other: u32, index: usize) -> Answer;
     fn size(words: &mut [u32], log: bool) -> u32;
     fn read(words: &mut [u32], log: bool, page: u32, word: &mut u32) -> bool;
     fn put(words: &mut [u32], log: bool, page: u32, word: u32) -> bool;
@@ -734,6 +734,11 @@ impl Engine {
         Ok(page.map(|&page| [usize::from(shadow.read_steps[index]), page as usize]))
     }
 
+    /// The answer to stand, for a plan that only looks.
+    pub fn look(&self, slot: u32, other: u32) -> Answer {
+        answered(self.tell_stand(slot, other))
+    }
+
     /// A commit that also tells what became of the other slots.
     pub fn commit_telling(&mut self, slot: u32, words: &mut [u32], log: bool) -> (Answer, Spoils) {
         match self.commit_slot(slot, &mut Pages::over(words, log)) {
@@ -776,12 +781,12 @@ impl Interface for Engine {
     }
 
     #[inline(never)]
-    fn stand(&self, slot: u32, other: u32) -> Answer {
-        answered(self.tell_stand(slot, other))
+    fn stand(&mut self, slot: u32, other: u32) -> Answer {
+        self.look(slot, other)
     }
 
     #[inline(never)]
-    fn read_entry(&self, slot: u32, other: u32, index: usize) -> Answer {
+    fn read_entry(&mut self, slot: u32, other: u32, index: usize) -> Answer {
         match self.tell_read(slot, other, index) {
             Ok(Some(values)) => Answer::new(0, values),
             Ok(None) => Answer::new(0, []),

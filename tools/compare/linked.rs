@@ -29,11 +29,11 @@ impl Interface for Linked {
         Linked::abort(self, slot)
     }
 
-    fn stand(&self, slot: u32, other: u32) -> Answer {
+    fn stand(&mut self, slot: u32, other: u32) -> Answer {
         Linked::stand(self, slot, other)
     }
 
-    fn read_entry(&self, slot: u32, other: u32, index: usize) -> Answer {
+    fn read_entry(&mut self, slot: u32, other: u32, index: usize) -> Answer {
         Linked::read_entry(self, slot, other, index)
     }
 

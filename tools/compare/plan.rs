@@ -2,7 +2,7 @@
 //! its questions, so that turns find shadows and transactions come to their end and commit.
 
 use crate::calls::{Call, Store};
-use crate::engine::{Answer, Engine, Interface, AT_END, NOT_OPEN, OFF_PAGES, READY, SLOTS, UNWRITABLE};
+use crate::engine::{Answer, Engine, AT_END, NOT_OPEN, OFF_PAGES, READY, SLOTS, UNWRITABLE};
 use crate::random::{damaged_script, fit_script, reading_script, store, writing_script, Ground, Random};
 
 /// What a host does next.
@@ -141,7 +141,7 @@ impl Plan {
     }
 
     fn call_for(&self, slot: u32, random: &mut Random, engine: &Engine, size: u32) -> Call {
-        let leading = engine.stand(slot, slot);
+        let leading = engine.look(slot, slot);
         if leading.refusal == NOT_OPEN {
             return Call::Begin(slot, self.script(slot, random, size));
         }
@@ -164,7 +164,7 @@ impl Plan {
     /// each by its own turns, and one of the slots commits.
     fn staged_call(&self, random: &mut Random, engine: &Engine, size: u32) -> Call {
         for &slot in &self.slots {
-            let leading = engine.stand(slot, slot);
+            let leading = engine.look(slot, slot);
             if leading.refusal == NOT_OPEN {
                 return Call::Begin(slot, self.script(slot, random, size));
             }
@@ -174,7 +174,7 @@ impl Plan {
         }
         let reader = self.slots[0];
         let mut behind = other_shadows(engine, reader);
-        behind.retain(|&other| engine.stand(reader, other).values[1] == READY);
+        behind.retain(|&other| engine.look(reader, other).values[1] == READY);
         if !behind.is_empty() && random.chance(95) {
             return Call::Turn(reader, random.pick(&behind));
         }
@@ -229,7 +229,7 @@ impl Plan {
         if self.is_stuck(slot) {
             return Some(Call::Abort(slot));
         }
-        let ended = engine.stand(slot, slot).values[1] == AT_END;
+        let ended = engine.look(slot, slot).values[1] == AT_END;
         Some(if ended { Call::Commit(slot) } else { Call::Turn(slot, slot) })
     }
 
@@ -259,11 +259,11 @@ fn some_slots(random: &mut Random, count: usize) -> Vec<u32> {
 }
 
 fn open_slots(engine: &Engine) -> Vec<u32> {
-    (0..SLOTS as u32).filter(|&slot| engine.stand(slot, slot).refusal == 0).collect()
+    (0..SLOTS as u32).filter(|&slot| engine.look(slot, slot).refusal == 0).collect()
 }
 
 fn other_shadows(engine: &Engine, slot: u32) -> Vec<u32> {
-    (0..SLOTS as u32).filter(|&other| other != slot && engine.stand(slot, other).refusal == 0).collect()
+    (0..SLOTS as u32).filter(|&other| other != slot && engine.look(slot, other).refusal == 0).collect()
 }
 
 fn any_slot(random: &mut Random) -> u32 {

@@ -1,2 +1,3 @@
 pub mod Told
 pub mod Host
+pub mod Handle

@@ -6,9 +6,8 @@ use Rattle.serial.specs.declared.fault.Turned.{Turned}
 use Rattle.serial.specs.declared.fault.Turned.TheVariants.{Moved, Ended, Waiting}
 use Rattle.serial.specs.declared.fault.Standing.{Standing}
 use Rattle.serial.specs.declared.fault.Standing.TheVariants.{AtEnd, Halted, Ready}
-use Rattle.serial.specs.declared.fault.Answer.{Answer}
-use Rattle.serial.specs.declared.fault.Answer.TheVariants.{Allowed, Begun, Took, Committed, Aborted, Declined}
-use Rattle.serial.specs.Faults.{call_cause, call_returned}
+use Rattle.serial.specs.declared.fault.Accepted.TheVariants.{Allowed, Begun, Took, Committed, Aborted}
+use Rattle.serial.specs.Faults.{Answer, call_cause, call_returned}
 use Rattle.serial.specs.Rules.{State, Done}
 use Rattle.linked.specs.declared.told.Told.{Told}
 
@@ -40,12 +39,12 @@ standing_number Ready = 2
 
 -- an accepted call tells its values: a turn how it ended, a commit register 0 and the number of pages put
 abbrev pub answer_told : Answer → Told
-answer_told Allowed = told 0 []
-answer_told Begun = told 0 []
-answer_told (Took turned) = told 0 (turned_number turned ∷ [])
-answer_told (Committed word pages) = told 0 (word ∷ pages ∷ [])
-answer_told Aborted = told 0 []
-answer_told (Declined fault) = declined fault
+answer_told (Ok Allowed) = told 0 []
+answer_told (Ok Begun) = told 0 []
+answer_told (Ok (Took turned)) = told 0 (turned_number turned ∷ [])
+answer_told (Ok (Committed word pages)) = told 0 (word ∷ pages ∷ [])
+answer_told (Ok Aborted) = told 0 []
+answer_told (Err fault) = declined fault
 
 -- what a call does, and what is told of its answer
 abbrev pub done_told : Done → State × Told

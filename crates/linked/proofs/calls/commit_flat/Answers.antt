@@ -1,0 +1,8 @@
+use Rattle.linked.proofs.Host.{flat_chain}
+use Rattle.linked.proofs.calls.commit_flat.Goals as goal
+
+pub returns-clause-words : goal.returns-clause-words
+returns-clause-words c = (flat_chain _ _ _ c.commit_to.ensures.puts).0
+
+pub returns-clause-lender : goal.returns-clause-lender
+returns-clause-lender c = (flat_chain _ _ _ c.commit_to.ensures.puts).1

@@ -1,0 +1,7 @@
+// The engine for hosts in C, over memory that the host keeps: include/gorsepick.h has the same functions for C.
+mod calls;
+mod fresh;
+mod handle;
+mod memory;
+mod questions;
+mod told;
