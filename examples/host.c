@@ -147,8 +147,8 @@ static void book_commit(uint32_t slot)
     if (!begun[slot])
         return;
     gorsepick_memory room;
-    gorsepick_fresh(&room);
     gorsepick_engine alone = {&room};
+    gorsepick_fresh(alone);
     gorsepick_begin(&alone, 0, begun[slot]->bytes, begun[slot]->length);
     while (gorsepick_turn(&alone, 0, 0, book.words, book.length, book.log, flags).values[0] == GORSEPICK_MOVED)
         ;
@@ -321,7 +321,7 @@ int main(int count, char **arguments)
         perror(arguments[1]);
         return 1;
     }
-    gorsepick_fresh(&memory);
+    gorsepick_fresh(engine);
     while (fgets(line, sizeof line, file)) {
         line_number++;
         carry_out(line);

@@ -5,7 +5,7 @@
  * that a host can pass. docs/LINKING.md says how to build, and what the rules are is in docs/ENGINE.md.
  *
  * What the proof takes on trust from a host in C, since no compiler checks it:
- *   - gorsepick_fresh is given room for an engine;
+ *   - gorsepick_fresh is given a handle that leads to room for an engine;
  *   - an engine that any other function is given leads to memory in which gorsepick_fresh made an engine, or to a copy of
  *     such memory, and nothing but these functions has written to it since. Its contents are of no account to a host, and a
  *     host that scribbles over it has no promise left;
@@ -36,7 +36,7 @@ typedef struct gorsepick_memory {
     uint64_t words[GORSEPICK_ENGINE_WORDS];
 } gorsepick_memory;
 
-/* An engine, by where it lies. No function changes `at`. */
+/* A handle: where an engine lies. No function changes `at`. */
 typedef struct gorsepick_engine {
     gorsepick_memory *at;
 } gorsepick_engine;
@@ -81,8 +81,11 @@ enum { GORSEPICK_AT_END = 0, GORSEPICK_HALTED = 1, GORSEPICK_READY = 2 };
  * of one version. */
 size_t gorsepick_engine_size(void);
 
-/* Makes a fresh engine, with allowance 2 and all slots closed, whatever lay there before. */
-void gorsepick_fresh(gorsepick_memory *at);
+/* Makes a fresh engine, with allowance 2 and all slots closed, in the memory that the handle leads to, whatever lay there:
+ *     static gorsepick_memory memory;
+ *     gorsepick_engine engine = {&memory};
+ *     gorsepick_fresh(engine); */
+void gorsepick_fresh(gorsepick_engine engine);
 
 /* The five calls. Each does to the engine and the pages exactly what docs/ENGINE.md says, and answers exactly that. */
 

@@ -29,11 +29,11 @@ pub struct Answer {
 }
 
 mod library {
-    use super::{Answer, Engine, Handle};
+    use super::{Answer, Handle};
 
     extern "C" {
         pub fn gorsepick_engine_size() -> usize;
-        pub fn gorsepick_fresh(at: *mut Engine);
+        pub fn gorsepick_fresh(engine: Handle);
         pub fn gorsepick_set_allowance(engine: *mut Handle, allowance: u32) -> Answer;
         pub fn gorsepick_begin(engine: *mut Handle, slot: u32, script: *const u8, length: usize) -> Answer;
         pub fn gorsepick_turn(
@@ -71,7 +71,7 @@ pub fn check_version() -> Result<(), String> {
 impl Engine {
     pub fn fresh() -> Engine {
         let mut engine = Engine { words: [0; ENGINE_WORDS] };
-        unsafe { library::gorsepick_fresh(&mut engine) };
+        unsafe { library::gorsepick_fresh(engine.handle()) };
         engine
     }
 

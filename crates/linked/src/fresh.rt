@@ -9,6 +9,17 @@ ghost use Rattle.engine.specs.declared.engine.Engine.{Engine};
 ghost use Rattle.linked.specs.Host.{engine_bytes};
 
 use engine::Engine;
+use std::marker::Model;
+
+// Room for an engine in memory that a host keeps, whatever lies there.
+#[repr(C)]
+pub struct Room {
+    at: *mut Engine,
+}
+
+impl Model for Room {
+    ghost also_owns = { λ room. uninit_at EngineRow room.at };
+}
 
 // The size of an engine in bytes.
 #[unsafe(no_mangle)]
@@ -25,11 +36,11 @@ fn fresh() -> Engine
     Engine::new()
 }
 
-// Makes a fresh engine in memory that has room for one, whatever lay there.
+// Makes a fresh engine where there is room: the host has the engine then, and the room no longer.
 #[unsafe(no_mangle)]
-pub unsafe extern "C" fn gorsepick_fresh(at: *mut Engine)
-    requires* { sem 𝓛 (uninit_at EngineRow at) }
-    ensures* { ∃ₛ (λ (e : Engine). sem 𝓛 (points_to EngineRow at e) ∗ ⌜ engine_of e.table ≡ fresh_engine ⌝) }
+pub extern "C" fn gorsepick_fresh(room: Room)
+    ensures* { ∃ₛ (λ (e : Engine). sem 𝓛 (points_to EngineRow room.at e) ∗ ⌜ engine_of e.table ≡ fresh_engine ⌝) }
 {
-    at.write(fresh());
+    let Room { at } = room;
+    unsafe { at.write(fresh()) };
 }
