@@ -1,7 +1,7 @@
 -- What stands in a row, and turns of the loops over it. Assumes nothing.
-use Rattle.std.proofs.Common.{◌≡◌, ℕ, suc, ◌+◌, ◌<◌, Bool, not, List, [], ◌∷◌, ◌++◌, map, length, get_or, take, drop, set, is_some, Some, None, Option, Result, unwrap_or, sym, refl, ap, ◌∙◌, subst, arith}
+use Rattle.std.proofs.Common.{◌≡◌, ℕ, suc, ◌+◌, ◌<◌, Bool, not, List, [], ◌∷◌, ◌++◌, map, length, get_or, take, drop, set, is_some, Some, None, Option, Result, unwrap_or, sym, refl, ap, ◌∙◌, subst, arith, Bor}
 use Rattle.std.specs.List.{filter}
-use Rattle.std.specs.Option.{option_map}
+use Rattle.std.specs.Option.{option_map, option_copied}
 use Rattle.std.proofs.Math.ListN.{get_or-map}
 use Rattle.std.proofs.lemmas.List.{at_drop_more, length-map, map-set, get_or_default, set-get_or}
 use Rattle.std.proofs.lemmas.List.Edits.{map_over_more}
@@ -11,7 +11,7 @@ use Rattle.serial.specs.Machine.{Meaning, Stand, start, Taken, moved, off_pages,
 use Rattle.serial.specs.Rules.{Row, better, furthest, furthest_of, any_shadow, count}
 use Rattle.serial.proofs.Conflicts.{read_any_nil}
 use Rattle.engine.specs.declared.shadow.Shadow.{Shadow}
-use Rattle.engine.specs.View.{stand_of, Took}
+use Rattle.engine.specs.View.{stand_of, seen, Took}
 use Rattle.engine.specs.Table.{unread, Lent}
 
 -- a list, seen through a view of each element
@@ -47,6 +47,15 @@ furthest_any t cs = furthest_same (unread []) any_shadow (λ s. ap not (read_any
 
 abbrev pub view : List (Option Shadow) → Row
 view xs = map (option_map stand_of) xs
+
+-- what is seen of a lent shadow is what is seen of a copy
+pub seen_copied : (r : Option (Bor Shadow)) → option_map seen r ≡ option_map stand_of (option_copied r)
+seen_copied None = refl
+seen_copied (Some s) = refl
+
+-- a row whose shadow for u is forgotten
+pub set_none : (xs : List (Option Shadow)) (u : ℕ) (o : Option Shadow) → o ≡ None → view (set xs u o) ≡ set (view xs) u None
+set_none xs u o e = map-set (option_map stand_of) xs u o ∙ ap (λ p. set (view xs) u (option_map stand_of p)) e
 
 -- how many shadows there are, as a filter leaves them
 pub count_filtered : (xs : List (Option Shadow)) → length (filter (λ o. is_some o) xs) ≡ count (view xs)

@@ -1,5 +1,5 @@
 -- The rows and scripts of a table, and turns of the loops over them. Assumes nothing.
-use Rattle.std.proofs.Common.{◌≡◌, ℕ, zero, suc, ◌+◌, ◌<◌, Bool, List, [], ◌∷◌, ◌++◌, map, length, get_or, take, drop, set, is_some, Some, None, Option, sym, refl, ap, ◌∙◌, add-one, arith}
+use Rattle.std.proofs.Common.{◌≡◌, ℕ, zero, suc, ◌+◌, ◌<◌, Bool, true, false, List, [], ◌∷◌, ◌++◌, map, length, get_or, take, drop, set, is_some, Some, None, Option, sym, refl, ap, ◌∙◌, add-one, arith}
 use Rattle.std.specs.List.{find, range_with_len}
 use Rattle.std.proofs.Math.ListN.{get_or-map}
 use Rattle.std.proofs.Math.Seq.{map-set_same}
@@ -59,6 +59,26 @@ module _ (own : List WriteEntry) where
       ap (λ n. renewed own v x ∷ set ys i (renewed own n (get_or ys i []))) e
       ∙ ap (λ rs. renewed own v x ∷ rs) (renewed-turn (suc v) xs i (omega arith))
 
+  -- a row with no shadow is its own renewal
+  remaining_bare : (r : rules.Row) → ((u : ℕ) → is_some (get_or r u None) ≡ false) → rules.remaining own r ≡ r
+  remaining_bare [] h = refl
+  remaining_bare (None ∷ r) h = ap (λ q. None ∷ q) (remaining_bare r (λ u. h (suc u)))
+  remaining_bare (Some s ∷ r) h = absurd (let z : true ≡ false = h 0 in cc)
+
+  spoils_none : (o : Option Stand) → is_some o ≡ false → rules.spoils own o ≡ false
+  spoils_none None h = refl
+  spoils_none (Some s) h = absurd (cc)
+
+  renewed_bare : (v : ℕ) (r : rules.Row) → ((u : ℕ) → is_some (get_or r u None) ≡ false) → renewed own v r ≡ r
+  renewed_bare v r h = cond-false (rules.spoils own (get_or r v None)) _ _ (spoils_none (get_or r v None) (h v)) ∙ remaining_bare r h
+
+  renewed-skip : (v : ℕ) (xs : List rules.Row) (i : ℕ) → i < length xs → renewed own (v + i) (get_or xs i []) ≡ get_or xs i [] → renew own v (take i xs) ++ drop i xs ≡ renew own v (take (suc i) xs) ++ drop (suc i) xs
+  renewed-skip v [] i low h = absurd (omega arith)
+  renewed-skip v (x ∷ xs) zero low h = let e : v + 0 ≡ v = omega arith in ap (λ q. q ∷ xs) (sym h ∙ ap (λ n. renewed own n x) e)
+  renewed-skip v (x ∷ xs) (suc i) low h =
+      let e : v + suc i ≡ suc v + i = omega arith in
+      ap (λ rs. renewed own v x ∷ rs) (renewed-skip (suc v) xs i (omega arith) (ap (λ n. renewed own n (get_or xs i [])) (sym e) ∙ h))
+
   module _ (xs : List Held) (i : ℕ) where
     -- the first i rows are renewed
     abbrev pub Renewed : List Held → Type 0
@@ -73,6 +93,13 @@ module _ (own : List WriteEntry) where
       ∙ ap (λ rs. set rs i (renewed own i (get_or rs i []))) inv
       ∙ ap (λ n. set (renew own 0 (take i (map row_held xs)) ++ drop i (map row_held xs)) i (renewed own n (get_or (renew own 0 (take i (map row_held xs)) ++ drop i (map row_held xs)) i []))) (sym z)
       ∙ renewed-turn 0 (map row_held xs) i l
+      ∙ ap (λ n. renew own 0 (take n (map row_held xs)) ++ drop n (map row_held xs)) (sym (add-one i))
+
+  -- a row that has no shadow is left as it is
+  pub renewed_same : (xs ys : List Held) (i : ℕ) → i < length xs → ((u : ℕ) → is_some (get_or (get_or (map row_held xs) i []) u None) ≡ false) → Renewed xs i ys → Renewed xs (i + 1) ys
+  renewed_same xs ys i low bare inv =
+      let l : i < length (map row_held xs) = simp length-map low in
+      inv ∙ renewed-skip 0 (map row_held xs) i l (renewed_bare (0 + i) (get_or (map row_held xs) i []) bare)
       ∙ ap (λ n. renew own 0 (take n (map row_held xs)) ++ drop n (map row_held xs)) (sym (add-one i))
 
 -- the lowest open slot, found among the slots

@@ -1,15 +1,26 @@
 -- Where a shadow stands, and what its calls answer. Assumes nothing.
 use Rattle.std.specs.Prelude.{◌≡◌, ℕ, ◌+◌, ◌<◌, ◌≤◌, List, [], ◌∷◌, ◌++◌, length, Some, None, Ok, Err, Option, Result, slice_index, slice_index_or, slice_set}
+use Rattle.std.specs.Borrow.{Bor}
 use Rattle.basics.specs.Trail.{items_of}
 use Rattle.pages.specs.Pages.{entry, fault_at}
 use Rattle.pages.specs.declared.StoreFault.{StoreFault}
 use Rattle.pages.specs.declared.WriteEntry.{WriteEntry}
-use Rattle.serial.specs.Machine.{Stand, written, write, recorded, Taken, moved, off_pages}
+use Rattle.script.specs.View.{steps_of}
+use Rattle.script.specs.declared.Script.{Script}
+use Rattle.serial.specs.Machine.{Steps, Stand, written, write, recorded, Taken, moved, off_pages}
 use Rattle.engine.specs.declared.shadow.Shadow.{Shadow}
 
 abbrev pub stand_of : Shadow → Stand
 stand_of s =
     record { step = s.step; registers = s.registers; reads = items_of s.reads; own = items_of s.own }
+
+-- a shadow that is lent
+abbrev pub seen : Bor Shadow → Stand
+seen s = stand_of s.now
+
+-- and a script that is lent
+abbrev pub steps_seen : Bor Script → Steps
+steps_seen s = steps_of s.now
 
 -- where page p stands on an own list: there its word is, and a write replaces it; where it stands nowhere, a write goes
 -- to the end

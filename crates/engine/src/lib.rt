@@ -4,7 +4,6 @@
 mod alone;
 mod engine;
 mod machine;
-mod named;
 mod row;
 mod shadow;
 mod slot;

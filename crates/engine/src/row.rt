@@ -3,7 +3,7 @@ ghost use Rattle.std.specs.Prelude.{◌≡◌, ◌+◌, ◌<◌, true, [], ◌�
 ghost use Rattle.std.specs.Option.{unwrap_or, option_map};
 ghost use Rattle.serial.specs.Machine.{start as started, takes};
 ghost use Rattle.serial.specs.Rules.{no_shadows, ahead, better as better_of, furthest_of, any_shadow, count as counted, kept, remaining, spoils, renewed};
-ghost use Rattle.engine.specs.View.{stand_of, Room};
+ghost use Rattle.engine.specs.View.{stand_of, seen, Room};
 ghost use Rattle.engine.specs.Table.{row_of, unread, Lent};
 
 use crate::machine::Machine;
@@ -18,26 +18,53 @@ pub struct Row {
     entries: [Option<Shadow>; SLOTS],
 }
 
-fn is_ahead(shadow: &Shadow, best: Option<Shadow>) -> bool
-    ensures { result ≡ ahead (stand_of shadow.now) (option_map stand_of best) }
+fn is_ahead(shadow: &Shadow, best: Option<&Shadow>) -> bool
+    ensures { result ≡ ahead (stand_of shadow.now) (option_map seen best.entry) }
 {
     best.is_none_or(|known| known.step() < shadow.step())
 }
 
-// The better of two: the first, unless the other has read no page of the list and is ahead.
-fn better(best: Option<Shadow>, other: Option<Shadow>, list: &[WriteEntry]) -> Option<Shadow>
-    ensures { option_map stand_of result ≡ better_of (unread list.now) (option_map stand_of best) (option_map stand_of other) }
+// The better of two: the first, unless the other has read no page of the list and is ahead. They are lent: a copy costs more
+// than the choice.
+fn better<'a>(
+    best: Option<&'a Shadow>,
+    other: Option<&'a Shadow>,
+    list: &[WriteEntry],
+) -> Option<&'a Shadow>
+    ensures { option_map seen result ≡ better_of (unread list.now) (option_map seen best.entry) (option_map seen other.entry) }
 {
-    other
-        .filter(|shadow| !shadow.has_read_any(list) && is_ahead(shadow, best))
-        .or(best)
+    match other {
+        Some(shadow) if !shadow.has_read_any(list) && is_ahead(shadow, best) => other,
+        // Tried as `filter` and `or`, and by `is_some_and`: of a test that holds a lent shadow the check learns nothing.
+        _ => best,
+    }
 }
 
-// A shadow, unless it has read a page of the list.
-fn keep(entry: Option<Shadow>, own: &[WriteEntry]) -> Option<Shadow>
-    ensures { option_map stand_of result ≡ kept own.now (option_map stand_of entry) }
+// Leaves no shadow. Most entries have none, and `None` is written over all the room of one.
+fn vacate(entry: &mut Option<Shadow>)
+    ensures { entry.new ≡ None }
 {
-    entry.filter(|shadow| !shadow.has_read_any(own))
+    if entry.is_some() {
+        *entry = None;
+    }
+}
+
+// Whether there is a shadow that has read a page of the list.
+fn is_spoiled(entry: &Option<Shadow>, own: &[WriteEntry]) -> bool
+    ensures { result ≡ spoils own.now (option_map stand_of entry.now) }
+{
+    entry
+        .as_ref()
+        .is_some_and(|shadow| shadow.has_read_any(own))
+}
+
+// Drops a shadow that has read a page of the list.
+fn drop_reader(entry: &mut Option<Shadow>, own: &[WriteEntry])
+    ensures { option_map stand_of entry.new ≡ kept own.now (option_map stand_of entry.old) }
+{
+    if is_spoiled(entry, own) {
+        vacate(entry);
+    }
 }
 
 impl Row {
@@ -50,16 +77,33 @@ impl Row {
         }
     }
 
-    pub(crate) fn get(&self, u: Slot) -> Option<Shadow>
-        ensures { option_map stand_of result ≡ slice_index_or (row_of self.now) u None }
+    pub(crate) fn get(&self, u: Slot) -> Option<&Shadow>
+        ensures { option_map seen result ≡ slice_index_or (row_of self.now) u None }
     {
-        self.entries[u.index()]
+        self.entries[u.index()].as_ref()
     }
 
     pub(crate) fn put(&mut self, u: Slot, entry: Option<Shadow>)
         ensures { row_of self.new ≡ slice_set (row_of self.old) u (option_map stand_of entry) }
     {
         self.entries[u.index()] = entry;
+    }
+
+    // Takes the shadow for u away.
+    pub(crate) fn take_away(&mut self, u: Slot)
+        ensures { row_of self.new ≡ slice_set (row_of self.old) u None }
+    {
+        vacate(&mut self.entries[u.index()]);
+    }
+
+    // Takes every shadow away.
+    pub(crate) fn clear(&mut self)
+        ensures { row_of self.new ≡ no_shadows }
+    {
+        // As a slice, whose length a proof keeps.
+        for entry in &mut self.entries[..] {
+            vacate(entry);
+        }
     }
 
     // How many shadows there are.
@@ -70,20 +114,20 @@ impl Row {
     }
 
     // The furthest of slot t's shadows that have read no page of the list.
-    pub(crate) fn furthest_clean(&self, t: Slot, list: &[WriteEntry]) -> Option<Shadow>
-        ensures { option_map stand_of result ≡ furthest_of (unread list.now) t (row_of self.now) }
+    pub(crate) fn furthest_clean(&self, t: Slot, list: &[WriteEntry]) -> Option<&Shadow>
+        ensures { option_map seen result ≡ furthest_of (unread list.now) t (row_of self.now) }
     {
         // A `for`, tried as a `fold`: of `better` only the view of its answer is known, and a fold's proof asks for a function.
         let mut best = better(None, self.get(t), list);
         for entry in &self.entries {
-            best = better(best, *entry, list);
+            best = better(best, entry.as_ref(), list);
         }
         best
     }
 
     // The furthest of slot t's shadows: none has read a page of the empty list.
-    pub(crate) fn furthest(&self, t: Slot) -> Option<Shadow>
-        ensures { option_map stand_of result ≡ furthest_of any_shadow t (row_of self.now) }
+    pub(crate) fn furthest(&self, t: Slot) -> Option<&Shadow>
+        ensures { option_map seen result ≡ furthest_of any_shadow t (row_of self.now) }
     {
         self.furthest_clean(t, &[])
     }
@@ -92,24 +136,17 @@ impl Row {
     pub(crate) fn drop_readers(&mut self, own: &[WriteEntry])
         ensures { row_of self.new ≡ remaining own.now (row_of self.old) }
     {
-        // As a slice, whose length a proof keeps. Tried as `map`: of `keep` too only the view of its answer is known.
+        // As a slice, whose length a proof keeps.
         for entry in &mut self.entries[..] {
-            *entry = keep(*entry, own);
+            drop_reader(entry, own);
         }
-    }
-
-    // Whether slot v's leading shadow has read a page of the list.
-    fn is_spoiled(&self, v: Slot, own: &[WriteEntry]) -> bool
-        ensures { result ≡ spoils own.now (slice_index_or (row_of self.now) v None) }
-    {
-        self.get(v).is_some_and(|lead| lead.has_read_any(own))
     }
 
     // Slot v's furthest shadow leads from here on, or else one at step 0.
     fn lead_again(&mut self, v: Slot)
         ensures { row_of self.new ≡ slice_set (row_of self.old) v (Some (unwrap_or (furthest_of any_shadow v (row_of self.old)) started)) }
     {
-        let lead = self.furthest(v).unwrap_or_else(Shadow::start);
+        let lead = self.furthest(v).copied().unwrap_or_else(Shadow::start);
         self.put(v, Some(lead));
     }
 
@@ -117,7 +154,7 @@ impl Row {
     pub(crate) fn renew(&mut self, v: Slot, own: &[WriteEntry])
         ensures { row_of self.new ≡ renewed own.now v (row_of self.old) }
     {
-        let spoiled = self.is_spoiled(v, own);
+        let spoiled = is_spoiled(&self.entries[v.index()], own);
         self.drop_readers(own);
         if spoiled {
             self.lead_again(v);

@@ -4,7 +4,8 @@ ghost use Rattle.std.specs.Option.{option_map, unwrap_or};
 ghost use Rattle.script.specs.View.{steps_of};
 ghost use Rattle.serial.specs.Machine.{start as started};
 ghost use Rattle.serial.specs.Rules.{slots, no_shadows, fresh_engine, script_of, is_open, row as row_at, shadow as shadow_at, with_shadow, begun, closed, renew, committed};
-ghost use Rattle.engine.specs.View.{stand_of};
+ghost use Rattle.serial.specs.Sound.{ClosedBare};
+ghost use Rattle.engine.specs.View.{stand_of, seen, steps_seen};
 ghost use Rattle.engine.specs.Table.{row_of, engine_of, with_allowance, script_held, row_held, with_rows, without_column};
 
 use crate::row::Row;
@@ -41,6 +42,15 @@ impl Held {
             row: Row::new(),
         }
     }
+
+    // Leaves nothing, where it stands: a value of nothing would be made and copied.
+    fn close(&mut self)
+        ensures script { script_held self.new ≡ None }
+        ensures row { row_held self.new ≡ no_shadows }
+    {
+        self.script = None;
+        self.row.clear();
+    }
 }
 
 impl Table {
@@ -66,10 +76,10 @@ impl Table {
         self.allowance = k;
     }
 
-    pub(crate) fn script(&self, t: Slot) -> Option<Script>
-        ensures { option_map steps_of result ≡ script_of (engine_of self.now) t }
+    pub(crate) fn script(&self, t: Slot) -> Option<&Script>
+        ensures { option_map steps_seen result ≡ script_of (engine_of self.now) t }
     {
-        self.slots[t.index()].script
+        self.slots[t.index()].script.as_ref()
     }
 
     pub(crate) fn is_open(&self, t: Slot) -> bool
@@ -92,8 +102,8 @@ impl Table {
     }
 
     // Slot t's shadow for u, or its leading shadow where that is t.
-    pub(crate) fn shadow(&self, t: Slot, u: Slot) -> Option<Shadow>
-        ensures { option_map stand_of result ≡ shadow_at (engine_of self.now) t u }
+    pub(crate) fn shadow(&self, t: Slot, u: Slot) -> Option<&Shadow>
+        ensures { option_map seen result ≡ shadow_at (engine_of self.now) t u }
     {
         self.row(t).get(u)
     }
@@ -102,7 +112,7 @@ impl Table {
     pub(crate) fn lead(&self, t: Slot) -> Shadow
         ensures { stand_of result ≡ unwrap_or (shadow_at (engine_of self.now) t t) started }
     {
-        self.shadow(t, t).unwrap_or_else(Shadow::start)
+        self.shadow(t, t).copied().unwrap_or_else(Shadow::start)
     }
 
     pub(crate) fn put_shadow(&mut self, t: Slot, u: Slot, entry: Option<Shadow>)
@@ -125,7 +135,7 @@ impl Table {
     {
         // As a slice, whose length a proof keeps.
         for held in &mut self.slots[..] {
-            held.row.put(t, None);
+            held.row.take_away(t);
         }
     }
 
@@ -134,20 +144,24 @@ impl Table {
         ensures { engine_of self.new ≡ closed (engine_of self.old) t (engine_of self.old).shadows }
     {
         self.clear_column(t);
-        self.slots[t.index()] = Held::nothing();
+        self.slots[t.index()].close();
     }
 
-    // Every row after a commit of the list.
+    // Every row after a commit of the list. A closed slot has no shadow, and its row is not looked at.
     pub(crate) fn renew_all(&mut self, own: &[WriteEntry])
+        requires bare { ClosedBare (engine_of self.old) }
         ensures { engine_of self.new ≡ with_rows (engine_of self.old) (renew own.now 0 (engine_of self.old).shadows) }
     {
         for v in Slot::all() {
-            self.slots[v.index()].row.renew(v, own);
+            if self.is_open(v) {
+                self.slots[v.index()].row.renew(v, own);
+            }
         }
     }
 
     // Slot t's list is put: others that read from it go on without what they read, and t closes.
     pub(crate) fn commit_slot(&mut self, t: Slot, own: &[WriteEntry])
+        requires bare { ClosedBare (engine_of self.old) }
         ensures { engine_of self.new ≡ committed (engine_of self.old) t own.now }
     {
         self.renew_all(own);

@@ -77,13 +77,12 @@ impl Engine {
         ensures rule { turns (A.Arithmetic.meaning arithmetic.now) (state_of self.old (R.Reader.pages reader.now)) slot other ≡ (state_of self.new (R.Reader.pages reader.now), answers_by Took result) }
         ensures declined { OnErr result (self.new.table ≡ self.old.table) }
     {
-        let named = self.table.named(slot, other)?;
-        match self.table.standing(&named) {
+        let (t, u) = self.table.named(slot, other)?;
+        match self.table.standing(t, u) {
             Standing::AtEnd => Ok(Turned::Ended),
             Standing::Halted => Ok(Turned::Waiting),
             Standing::Ready => {
-                self.table
-                    .take_turn(&named, &Machine { reader, arithmetic })?;
+                self.table.take_turn(t, u, &Machine { reader, arithmetic })?;
                 Ok(Turned::Moved)
             }
         }

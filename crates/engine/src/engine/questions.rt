@@ -16,8 +16,8 @@ impl Engine {
     pub fn stand(&self, slot: u32, other: u32) -> Result<(usize, Standing), CallFault>
         ensures { result ≡ stand_told (engine_of self.now.table) slot other }
     {
-        let named = self.table.named(slot, other)?;
-        Ok((named.shadow.step(), self.table.standing(&named)))
+        let (t, u) = self.table.named(slot, other)?;
+        Ok((self.table.shadow_at(t, u).step(), self.table.standing(t, u)))
     }
 
     // The step and page of a shadow's recorded read, counted from 0, or absent.
@@ -29,8 +29,8 @@ impl Engine {
     ) -> Result<Option<ReadEntry>, CallFault>
         ensures { result ≡ entry_told (engine_of self.now.table) slot other index }
     {
-        let named = self.table.named(slot, other)?;
-        Ok(named.shadow.read(index))
+        let (t, u) = self.table.named(slot, other)?;
+        Ok(self.table.shadow_at(t, u).read(index))
     }
 
     // A copy of a shadow, where there is one.
@@ -39,6 +39,6 @@ impl Engine {
     {
         let t = Slot::try_from(slot).ok()?;
         let u = Slot::try_from(other).ok()?;
-        self.table.shadow(t, u)
+        self.table.shadow(t, u).copied()
     }
 }

@@ -3,7 +3,7 @@ ghost use Rattle.std.specs.Prelude.{◌≡◌};
 ghost use Rattle.std.specs.Option.{option_map};
 ghost use Rattle.serial.specs.Machine.{has_read, has_written as stands_on};
 ghost use Rattle.serial.specs.Rules.{slots, row as row_at, own_of, reads_of, shadow as shadow_at, lead_writes, clean, furthest_of, has_room, account as accounted, read_conflict, account_read, account_reads, write_conflict, account_write, account_writes, before_step, after_step};
-ghost use Rattle.engine.specs.View.{stand_of};
+ghost use Rattle.engine.specs.View.{stand_of, seen};
 ghost use Rattle.engine.specs.Table.{engine_of};
 
 use super::Table;
@@ -12,8 +12,8 @@ use crate::slot::Slot;
 use pages::WriteEntry;
 
 // What a shadow that may not be there has written.
-fn own_of(entry: &Option<Shadow>) -> &[WriteEntry]
-    ensures { result.now ≡ own_of (option_map stand_of entry.now) }
+fn own_of(entry: Option<&Shadow>) -> &[WriteEntry]
+    ensures { result.now ≡ own_of (option_map seen entry.entry) }
 {
     match entry {
         Some(shadow) => shadow.own(),
@@ -26,8 +26,7 @@ impl Table {
     pub(crate) fn lead_has_written(&self, u: Slot, page: u32) -> bool
         ensures { result ≡ stands_on (lead_writes (engine_of self.now) u) page }
     {
-        let lead = self.shadow(u, u);
-        has_written(own_of(&lead), page)
+        has_written(own_of(self.shadow(u, u)), page)
     }
 
     // Whether slot t has a shadow for u that has read the page.
@@ -39,11 +38,10 @@ impl Table {
     }
 
     // The furthest of slot t's shadows that have read nothing u's leading shadow has written.
-    fn furthest_for(&self, t: Slot, u: Slot) -> Option<Shadow>
-        ensures { option_map stand_of result ≡ furthest_of (clean (engine_of self.now) u) t (row_at (engine_of self.now) t) }
+    fn furthest_for(&self, t: Slot, u: Slot) -> Option<&Shadow>
+        ensures { option_map seen result ≡ furthest_of (clean (engine_of self.now) u) t (row_at (engine_of self.now) t) }
     {
-        let lead = self.shadow(u, u);
-        self.row(t).furthest_clean(t, own_of(&lead))
+        self.row(t).furthest_clean(t, own_of(self.shadow(u, u)))
     }
 
     // Whether slot t has a shadow for u, or may have one more.
@@ -58,7 +56,10 @@ impl Table {
         ensures { engine_of self.new ≡ accounted (engine_of self.old) t u }
     {
         if self.has_room(t, u) {
-            let copy = self.furthest_for(t, u).unwrap_or_else(Shadow::start);
+            let copy = self
+                .furthest_for(t, u)
+                .copied()
+                .unwrap_or_else(Shadow::start);
             self.put_shadow(t, u, Some(copy));
         }
     }

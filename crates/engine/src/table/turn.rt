@@ -4,19 +4,18 @@ ghost use Rattle.std.specs.Option.{unwrap_or};
 ghost use Rattle.script.specs.View.{steps_of};
 ghost use Rattle.serial.specs.Machine.{start as started, takes};
 ghost use Rattle.serial.specs.Alone.{next, on_list};
-ghost use Rattle.serial.specs.Rules.{shadow as shadow_at, with_shadow, place_of, lead_writes, shadow_moves, waits as has_to_wait, standing as stands};
+ghost use Rattle.serial.specs.Rules.{script_of, shadow as shadow_at, with_shadow, place_of, lead_writes, shadow_moves, waits as has_to_wait, standing as stands};
 ghost use Rattle.engine.specs.View.{stand_of, Room};
-ghost use Rattle.engine.specs.Named.{NamedBy};
+ghost use Rattle.engine.specs.Named.{NamedBy, script_at, stand_at};
 ghost use Rattle.engine.specs.Table.{engine_of, page_needed, checked, lead_takes, shadow_takes, Stepped, TookTurn};
 
 use super::Table;
 use crate::machine::Machine;
-use crate::named::Named;
 use crate::shadow::Shadow;
 use crate::slot::Slot;
 use arithmetic::Arithmetic;
 use pages::{Reader, StoreFault};
-use script::Step;
+use script::{Script, Step};
 use serial::{CallFault, Standing, StepFault};
 
 // The page that the store must have for a step.
@@ -39,20 +38,31 @@ fn check_step<R: Reader>(shadow: &Shadow, step: Step, reader: &R) -> Result<(), 
 }
 
 impl Table {
-    // The shadow of an open slot that a call names by two numbers, or why there is none.
-    pub(crate) fn named(&self, slot: u32, other: u32) -> Result<Named, CallFault>
+    // The slots by which a call names a shadow, or why there is none.
+    pub(crate) fn named(&self, slot: u32, other: u32) -> Result<(Slot, Slot), CallFault>
         ensures { NamedBy (engine_of self.now) slot other result }
     {
         let t = Slot::try_from(slot)?;
         let u = Slot::try_from(other)?;
-        let script = self.script(t).ok_or(CallFault::NotOpen(slot))?;
-        let shadow = self.shadow(t, u).ok_or(CallFault::NoShadow(other))?;
-        Ok(Named {
-            slot: t,
-            other: u,
-            script,
-            shadow,
-        })
+        self.script(t).ok_or(CallFault::NotOpen(slot))?;
+        self.shadow(t, u).ok_or(CallFault::NoShadow(other))?;
+        Ok((t, u))
+    }
+
+    // The script of an open slot.
+    fn script_at(&self, t: Slot) -> &Script
+        requires open { is_some (script_of (engine_of self.now) t) ≡ true }
+        ensures { steps_of result.now ≡ script_at (engine_of self.now) t }
+    {
+        self.script(t).unwrap()
+    }
+
+    // A shadow that is there.
+    pub(crate) fn shadow_at(&self, t: Slot, u: Slot) -> &Shadow
+        requires there { is_some (shadow_at (engine_of self.now) t u) ≡ true }
+        ensures { stand_of result.now ≡ stand_at (engine_of self.now) t u }
+    {
+        self.shadow(t, u).unwrap()
     }
 
     // Where slot t's leading shadow stands.
@@ -69,25 +79,28 @@ impl Table {
     }
 
     // Whether a shadow for another slot waits, for its own slot's leading shadow or for what the other's is to write.
-    fn waits(&self, named: &Named) -> bool
-        ensures { result ≡ has_to_wait (engine_of self.now) named.now.slot named.now.other (steps_of named.now.script) (stand_of named.now.shadow) }
+    fn waits(&self, t: Slot, u: Slot, script: &Script, shadow: &Shadow) -> bool
+        ensures { result ≡ has_to_wait (engine_of self.now) t u (steps_of script.now) (stand_of shadow.now) }
     {
-        let step = named.script.step(named.shadow.step());
-        self.lead_step(named.slot) <= named.shadow.step()
-            || self.is_on_list(named.other, named.shadow.store_read(step))
+        let step = script.step(shadow.step());
+        self.lead_step(t) <= shadow.step() || self.is_on_list(u, shadow.store_read(step))
     }
 
-    // What a shadow's next turn finds.
-    pub(crate) fn standing(&self, named: &Named) -> Standing
-        ensures { result ≡ stands (engine_of self.now) named.now.slot named.now.other (steps_of named.now.script) (stand_of named.now.shadow) }
+    // What the next turn of slot t's shadow for u finds.
+    pub(crate) fn standing(&self, t: Slot, u: Slot) -> Standing
+        requires open { is_some (script_of (engine_of self.now) t) ≡ true }
+        requires there { is_some (shadow_at (engine_of self.now) t u) ≡ true }
+        ensures { result ≡ stands (engine_of self.now) t u (script_at (engine_of self.now) t) (stand_at (engine_of self.now) t u) }
     {
-        if named.other == named.slot {
-            if named.script.len() <= named.shadow.step() {
+        let script = self.script_at(t);
+        let shadow = self.shadow_at(t, u);
+        if u == t {
+            if script.len() <= shadow.step() {
                 Standing::AtEnd
             } else {
                 Standing::Ready
             }
-        } else if self.waits(named) {
+        } else if self.waits(t, u, script, shadow) {
             Standing::Halted
         } else {
             Standing::Ready
@@ -114,53 +127,57 @@ impl Table {
         &mut self,
         t: Slot,
         step: &Step,
-        lead: &Shadow,
         machine: &Machine<R, A>,
     ) -> Result<(), StoreFault>
-        requires there { shadow_at (engine_of self.old) t t ≡ Some (stand_of lead.now) }
-        requires room { Room (stand_of lead.now) }
-        ensures { Stepped self.old (λ e. lead_takes (engine_of self.old) t step.now (stand_of lead.now) e) (takes (A.Arithmetic.meaning machine.now.arithmetic.now) (R.Reader.pages machine.now.reader.now) step.now (stand_of lead.now)) result self.new }
+        requires there { is_some (shadow_at (engine_of self.old) t t) ≡ true }
+        requires room { Room (stand_at (engine_of self.old) t t) }
+        ensures { Stepped self.old (λ e. lead_takes (engine_of self.old) t step.now (stand_at (engine_of self.old) t t) e) (takes (A.Arithmetic.meaning machine.now.arithmetic.now) (R.Reader.pages machine.now.reader.now) step.now (stand_at (engine_of self.old) t t)) result self.new }
     {
+        let lead = self.shadow_at(t, t);
         check_step(lead, *step, machine.reader)?;
-        self.before_step(t, lead.store_read(Some(*step)));
+        let read = lead.store_read(Some(*step));
+        let written = lead.write_of(Some(*step));
+        self.before_step(t, read);
         self.step(t, t, step, machine)?;
-        self.after_step(t, lead.write_of(Some(*step)));
+        self.after_step(t, written);
         Ok(())
     }
 
-    // One step of a shadow: only those of a leading shadow are accounted for. That the shadow named stands in this table is a
-    // fact of the two together, and so a clause.
+    // One step of a shadow: only those of a leading shadow are accounted for.
     fn step_shadow<R: Reader, A: Arithmetic>(
         &mut self,
-        named: &Named,
+        t: Slot,
+        u: Slot,
         step: &Step,
         machine: &Machine<R, A>,
     ) -> Result<(), StoreFault>
-        requires there { shadow_at (engine_of self.old) named.now.slot named.now.other ≡ Some (stand_of named.now.shadow) }
-        requires room { Room (stand_of named.now.shadow) }
-        ensures { Stepped self.old (λ e. shadow_takes (engine_of self.old) named.now.slot named.now.other step.now (stand_of named.now.shadow) e) (takes (A.Arithmetic.meaning machine.now.arithmetic.now) (R.Reader.pages machine.now.reader.now) step.now (stand_of named.now.shadow)) result self.new }
+        requires there { is_some (shadow_at (engine_of self.old) t u) ≡ true }
+        requires room { Room (stand_at (engine_of self.old) t u) }
+        ensures { Stepped self.old (λ e. shadow_takes (engine_of self.old) t u step.now (stand_at (engine_of self.old) t u) e) (takes (A.Arithmetic.meaning machine.now.arithmetic.now) (R.Reader.pages machine.now.reader.now) step.now (stand_at (engine_of self.old) t u)) result self.new }
     {
-        if named.other == named.slot {
-            self.step_lead(named.slot, step, &named.shadow, machine)
+        if u == t {
+            self.step_lead(t, step, machine)
         } else {
-            self.step(named.slot, named.other, step, machine)
+            self.step(t, u, step, machine)
         }
     }
 
-    // A turn of a shadow that is able to try a step.
+    // A turn of slot t's shadow for u, where it is able to try a step.
     pub(crate) fn take_turn<R: Reader, A: Arithmetic>(
         &mut self,
-        named: &Named,
+        t: Slot,
+        u: Slot,
         machine: &Machine<R, A>,
     ) -> Result<(), StepFault>
-        requires there { shadow_at (engine_of self.old) named.now.slot named.now.other ≡ Some (stand_of named.now.shadow) }
-        requires room { Room (stand_of named.now.shadow) }
-        ensures { TookTurn self.old (λ e. shadow_moves (engine_of self.old) named.now.slot named.now.other (steps_of named.now.script) (stand_of named.now.shadow) e) named.now.slot (stand_of named.now.shadow).step (next (A.Arithmetic.meaning machine.now.arithmetic.now) (steps_of named.now.script) (R.Reader.pages machine.now.reader.now) (stand_of named.now.shadow)) result self.new }
+        requires open { is_some (script_of (engine_of self.old) t) ≡ true }
+        requires there { is_some (shadow_at (engine_of self.old) t u) ≡ true }
+        requires room { Room (stand_at (engine_of self.old) t u) }
+        ensures { TookTurn self.old (λ e. shadow_moves (engine_of self.old) t u (script_at (engine_of self.old) t) (stand_at (engine_of self.old) t u) e) t (stand_at (engine_of self.old) t u).step (next (A.Arithmetic.meaning machine.now.arithmetic.now) (script_at (engine_of self.old) t) (R.Reader.pages machine.now.reader.now) (stand_at (engine_of self.old) t u)) result self.new }
     {
-        let number = named.shadow.step();
-        if let Some(step) = named.script.step(number) {
-            self.step_shadow(named, &step, machine)
-                .map_err(|fault| (u32::from(named.slot), number, fault))?;
+        let number = self.shadow_at(t, u).step();
+        if let Some(step) = self.script_at(t).step(number) {
+            self.step_shadow(t, u, &step, machine)
+                .map_err(|fault| (u32::from(t), number, fault))?;
         }
         Ok(())
     }

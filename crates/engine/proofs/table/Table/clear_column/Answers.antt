@@ -10,8 +10,8 @@ pub loop-held-preserved : goal.loop-held-preserved
 loop-held-preserved c =
     let i = c.loop-held.held-index in
     let items = c.loop-held.held-items in
-    let h = with_row (get_or items i no_held) c.put.new.self in
+    let h = with_row (get_or items i no_held) c.take_away.new.self in
     record {
-      rows = over_more row_held (cleared c.args.t) c.args.self.now.slots i no_held items h (omega arith) c.loop-held.auto.held-items c.loop-held.invariant.rows c.put.ensures;
+      rows = over_more row_held (cleared c.args.t) c.args.self.now.slots i no_held items h (omega arith) c.loop-held.auto.held-items c.loop-held.invariant.rows c.take_away.ensures;
       scripts = map-set_same script_held items i h no_held refl ∙ c.loop-held.invariant.scripts;
     }
