@@ -6,12 +6,13 @@
  *
  * What the proof takes on trust from a host in C, since no compiler checks it:
  *   - gorsepick_fresh is given a handle that leads to room for an engine;
- *   - an engine that any other function is given leads to memory in which gorsepick_fresh made an engine, or to a copy of
- *     such memory, and nothing but these functions has written to it since. Its contents are of no account to a host, and a
- *     host that scribbles over it has no promise left;
- *   - a pointer with a length beside it leads to that many readable elements (writable ones where it is not const), and is
- *     not null even where the length is 0;
- *   - the memory behind two pointers of one call does not overlap, and no other thread uses it during the call;
+ *   - the handle that any other function is given leads to memory in which gorsepick_fresh made an engine, or to a whole copy
+ *     of such memory, made between calls, and nothing but these functions has written to it since. What it holds is of no
+ *     account to a host, and a host that scribbles over it has no promise left;
+ *   - every pointer, `at` and `word` among them, is not null and leads to what its type says, writable where it is not const;
+ *     one with a length beside it leads to that many elements, and is not null even where the length is 0;
+ *   - the memory behind two pointers of one call does not overlap, and during a call nothing else uses any of it: no other
+ *     thread, signal handler, interrupt or device; and no call is left by longjmp;
  *   - pointers are aligned as C aligns their types, and a bool is true or false.
  * Nothing else is asked. Any slot number, allowance, page, script and store words are fine: what is not fit is refused, and
  * a refused call leaves the engine and the words as they were.
@@ -36,7 +37,8 @@ typedef struct gorsepick_memory {
     uint64_t words[GORSEPICK_ENGINE_WORDS];
 } gorsepick_memory;
 
-/* A handle: where an engine lies. No function changes `at`. */
+/* A handle: where an engine lies. No function changes `at`. Copying a handle copies no engine; any handle on an engine serves,
+ * as long as no two calls on it run at once. */
 typedef struct gorsepick_engine {
     gorsepick_memory *at;
 } gorsepick_engine;
@@ -77,8 +79,8 @@ enum { GORSEPICK_AT_END = 0, GORSEPICK_HALTED = 1, GORSEPICK_READY = 2 };
 #define GORSEPICK_COUNTERS false
 #define GORSEPICK_FLAGS true
 
-/* The size of an engine in bytes, as the library has it: equal to sizeof(gorsepick_memory), or header and library are not
- * of one version. */
+/* The size of an engine in bytes, as the library has it. Call it before any other function: where it is not
+ * sizeof(gorsepick_memory), header and library are not of one version. */
 size_t gorsepick_engine_size(void);
 
 /* Makes a fresh engine, with allowance 2 and all slots closed, in the memory that the handle leads to, whatever lay there:
@@ -92,7 +94,7 @@ void gorsepick_fresh(gorsepick_engine engine);
 /* Sets the allowance, 1 to 8, while no slot is open. Refused: 2, 3. Answers no value. */
 gorsepick_answer gorsepick_set_allowance(gorsepick_engine *engine, uint32_t allowance);
 
-/* Opens a slot with a copy of a script's bytes. Refused: 1, 4, 5, 6. Answers no value. The bytes stay as they were. */
+/* Opens a slot with the script that the bytes say; the bytes may go then. Refused: 1, 4, 5, 6. Answers no value. */
 gorsepick_answer gorsepick_begin(gorsepick_engine *engine, uint32_t slot, const uint8_t *script, size_t length);
 
 /* One step of the slot's shadow for `other`, or of its leading shadow where both are the same. Refused: 1, 7, 8, 9. Answers
@@ -120,10 +122,11 @@ gorsepick_answer gorsepick_read_entry(gorsepick_engine *engine, uint32_t slot, u
 /* The pages of a store in host memory. A flat store has the words as its pages; over more than 4,096 its size is 0. A log
  * store has the layout of docs/PAGES.md; over words that are not sound its size is 0. */
 
-/* The number of pages. */
+/* The number of pages. The words stay as they were. */
 uint32_t gorsepick_size(uint32_t *words, size_t length, bool log);
 
-/* Reads a page into *word and says true; where the page is not below the size, *word stays and it says false. */
+/* Reads a page into *word and says true; where the page is not below the size, *word stays and it says false. The words stay
+ * as they were. */
 bool gorsepick_read(uint32_t *words, size_t length, bool log, uint32_t page, uint32_t *word);
 
 /* Puts a word to a page and says true; where the page is not below the size, the words stay and it says false. */

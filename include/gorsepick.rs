@@ -70,7 +70,8 @@ pub fn check_version() -> Result<(), String> {
 
 impl Engine {
     pub fn fresh() -> Engine {
-        let mut engine = Engine { words: [0; ENGINE_WORDS] };
+        // What lies there is of no account.
+        let mut engine = Engine { words: [0xA5A5_A5A5_A5A5_A5A5; ENGINE_WORDS] };
         unsafe { library::gorsepick_fresh(engine.handle()) };
         engine
     }

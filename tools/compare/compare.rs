@@ -22,12 +22,53 @@ fn agree<T: PartialEq + Display>(what: impl FnOnce() -> String, proved: T, plain
     Err(Difference { what: what(), proved: proved.to_string(), plain: plain.to_string() })
 }
 
+/// Words that stand before and after what the proved engine is lent, and that it must leave.
+const GUARD: u64 = 0x6AA2_D000_D2AA_6000;
+
+/// The proved engine between guards.
+#[derive(Clone)]
+#[repr(C)]
+struct Guarded {
+    before: [u64; 4],
+    engine: Linked,
+    after: [u64; 4],
+}
+
+/// Words between guards.
+#[derive(Clone)]
+struct Lent {
+    words: Vec<u32>,
+}
+
+impl Lent {
+    const EDGE: usize = 8;
+
+    fn new(words: &[u32]) -> Self {
+        let edge = [GUARD as u32; Lent::EDGE];
+        Lent { words: [&edge, words, &edge].concat() }
+    }
+
+    fn all(&mut self) -> &mut [u32] {
+        let end = self.words.len() - Lent::EDGE;
+        &mut self.words[Lent::EDGE..end]
+    }
+
+    fn seen(&self) -> &[u32] {
+        &self.words[Lent::EDGE..self.words.len() - Lent::EDGE]
+    }
+
+    fn is_whole(&self) -> bool {
+        let (before, after) = (&self.words[..Lent::EDGE], &self.words[self.words.len() - Lent::EDGE..]);
+        before.iter().chain(after).all(|&word| word == GUARD as u32)
+    }
+}
+
 /// Both engines, each with a memory of its own.
 #[derive(Clone)]
 struct Pair {
-    proved: Linked,
+    proved: Guarded,
     plain: Engine,
-    proved_words: Vec<u32>,
+    proved_words: Lent,
     /// The words of the plain side, and which kind of store both sides are told.
     store: Store,
     flags: bool,
@@ -51,8 +92,9 @@ const UNREAD: u32 = 0x5EED_1E55;
 
 impl Pair {
     fn fresh(store: Store, flags: bool) -> Self {
-        let proved_words = store.words.clone();
-        Pair { proved: Linked::fresh(), plain: Engine::fresh(), proved_words, store, flags }
+        let proved_words = Lent::new(&store.words);
+        let proved = Guarded { before: [GUARD; 4], engine: Linked::fresh(), after: [GUARD; 4] };
+        Pair { proved, plain: Engine::fresh(), proved_words, store, flags }
     }
 
     fn size(&mut self) -> u32 {
@@ -69,7 +111,7 @@ impl Pair {
 
     fn call(&mut self, call: &Call) -> (Answer, Answer, Spoils) {
         let (log, flags) = (self.store.log, self.flags);
-        let proved = perform(&mut self.proved, call, &mut self.proved_words, log, flags);
+        let proved = perform(&mut self.proved.engine, call, self.proved_words.all(), log, flags);
         let words = &mut self.store.words;
         let (plain, spoils) = match *call {
             Call::Commit(slot) => self.plain.commit_telling(slot, words, log),
@@ -80,13 +122,13 @@ impl Pair {
 
     fn put(&mut self, page: u32, word: u32) -> Result<(), Difference> {
         let log = self.store.log;
-        let proved = Linked::put(&mut self.proved_words, log, page, word);
+        let proved = Linked::put(self.proved_words.all(), log, page, word);
         let plain = Engine::put(&mut self.store.words, log, page, word);
         agree(|| format!("whether page {page} was put"), proved, plain)
     }
 
     fn replace(&mut self, store: Store) {
-        self.proved_words = store.words.clone();
+        self.proved_words = Lent::new(&store.words);
         self.store = store;
     }
 
@@ -98,10 +140,12 @@ impl Pair {
     }
 
     fn check_words(&self, when: &str) -> Result<(), Difference> {
-        if self.proved_words == self.store.words {
+        let guards = self.proved.before.iter().chain(&self.proved.after).all(|&word| word == GUARD);
+        agree(|| format!("the words around what was lent{when}"), guards && self.proved_words.is_whole(), true)?;
+        if self.proved_words.seen() == self.store.words {
             return Ok(());
         }
-        let both = self.proved_words.iter().zip(&self.store.words);
+        let both = self.proved_words.seen().iter().zip(&self.store.words);
         both.enumerate().try_for_each(|(place, (proved, plain))| {
             agree(|| format!("word {place} of the memory{when}"), proved, plain)
         })
@@ -109,7 +153,7 @@ impl Pair {
 
     fn check_pages(&mut self, pages: Pages, strange: bool) -> Result<(), Difference> {
         let size = self.size();
-        let proved = Linked::size(&mut self.proved_words, self.store.log);
+        let proved = Linked::size(self.proved_words.all(), self.store.log);
         agree(|| "the store's size".to_string(), proved, size)?;
         let stride = if size <= FEW_PAGES || pages == Pages::All { 1 } else { (size / FEW_PAGES) as usize };
         (0..size).step_by(stride).try_for_each(|page| self.check_page(page))?;
@@ -124,7 +168,7 @@ impl Pair {
     fn check_page(&mut self, page: u32) -> Result<(), Difference> {
         let log = self.store.log;
         let (mut proved_word, mut plain_word) = (UNREAD, UNREAD);
-        let proved = Linked::read(&mut self.proved_words, log, page, &mut proved_word);
+        let proved = Linked::read(self.proved_words.all(), log, page, &mut proved_word);
         let plain = Engine::read(&mut self.store.words, log, page, &mut plain_word);
         agree(|| format!("whether page {page} is there"), proved, plain)?;
         agree(|| format!("the word of page {page}"), proved_word, plain_word)
@@ -142,7 +186,7 @@ impl Pair {
     }
 
     fn check_shadow(&mut self, slot: u32, other: u32, strange: bool) -> Result<(), Difference> {
-        let (proved, plain) = (self.proved.stand(slot, other), self.plain.stand(slot, other));
+        let (proved, plain) = (self.proved.engine.stand(slot, other), self.plain.stand(slot, other));
         agree(|| format!("the answer to stand {slot} {other}"), proved, plain)?;
         let mut index = 0;
         while self.check_entry(slot, other, index)? {
@@ -156,7 +200,7 @@ impl Pair {
 
     /// Whether there is such an entry.
     fn check_entry(&mut self, slot: u32, other: u32, index: usize) -> Result<bool, Difference> {
-        let proved = self.proved.read_entry(slot, other, index);
+        let proved = self.proved.engine.read_entry(slot, other, index);
         let plain = self.plain.read_entry(slot, other, index);
         agree(|| format!("the answer to entry {slot} {other} {index}"), proved, plain)?;
         Ok(plain.refusal == 0 && plain.count > 0)
@@ -166,6 +210,9 @@ impl Pair {
 #[derive(Default)]
 struct Tally {
     lists: u64,
+    /// Lists that begin with a log, and with flags.
+    on_logs: u64,
+    with_flags: u64,
     accepted: u64,
     declined: [u64; LAST_REFUSAL + 1],
     commits: u64,
@@ -199,10 +246,12 @@ impl Tally {
         self.unsound_layouts += u64::from(store.log && !is_sound(&mut store.words));
     }
 
-    fn print(&self, seed: u64) {
+    fn print(&self) {
         let declined: u64 = self.declined.iter().sum();
         println!("No difference.");
         println!("Lists of calls:         {}", self.lists);
+        println!("  begun over a log:     {}", self.on_logs);
+        println!("  begun with flags:     {}", self.with_flags);
         println!("Calls:                  {}", self.accepted + declined);
         println!("  accepted:             {}", self.accepted);
         println!("  declined:             {declined}");
@@ -219,7 +268,6 @@ impl Tally {
         println!("Changes by the host:    {}", self.meddled);
         println!("Copies brought to end:  {}", self.copies);
         println!("  by further calls:     {}", self.calls_on_copies);
-        println!("Seed:                   {seed}");
     }
 }
 
@@ -343,6 +391,8 @@ fn run_list(seed: u64, number: u64, mut tally: Tally) -> Option<Tally> {
     let mut first = store(&mut random);
     let flags = random.chance(50);
     tally.lists += 1;
+    tally.on_logs += u64::from(first.log);
+    tally.with_flags += u64::from(flags);
     tally.count_store(&mut first);
     let pair = Pair::fresh(first, flags);
     let opening = format!("{} -> arithmetic of {}", pair.store, pair.arithmetic());
@@ -358,9 +408,10 @@ fn run_list(seed: u64, number: u64, mut tally: Tally) -> Option<Tally> {
 
 /// Whether all lists came out the same.
 pub fn run(lists: u64, seed: u64) -> bool {
+    println!("Seed:                   {seed}");
     let tally = (0..lists).try_fold(Tally::default(), |tally, number| run_list(seed, number, tally));
     if let Some(tally) = &tally {
-        tally.print(seed);
+        tally.print();
     }
     tally.is_some()
 }

@@ -205,7 +205,8 @@ impl<'a> Log<'a> {
 
     /// Carries a full log into the base words, in order, so that later entries win. Entries keep what they hold.
     fn carry(&mut self) {
-        for (&page, &word) in self.pages.iter().zip(self.words.iter()) {
+        let count = if cfg!(plant = "carry-leaves-one") { self.pages.len() - 1 } else { self.pages.len() };
+        for (&page, &word) in self.pages.iter().zip(self.words.iter()).take(count) {
             self.base[page as usize] = word;
         }
         self.header[USED] = 0;
@@ -434,11 +435,14 @@ impl Shadow {
         let place = usize::from(self.read_count);
         self.read_steps[place] = self.step;
         self.read_pages[place] = page;
-        self.read_count += 1;
+        self.read_count += u8::from(!(cfg!(plant = "no-sixteenth-read") && place == MAX_STEPS - 1));
     }
 
     fn record_write(&mut self, page: u32, word: u32) {
         let first = self.written_pages().iter().position(|&written| written == page);
+        if cfg!(plant = "no-sixteenth-write") && first.is_none() && usize::from(self.write_count) == MAX_STEPS - 1 {
+            return;
+        }
         let place = first.unwrap_or_else(|| {
             self.write_count += 1;
             usize::from(self.write_count) - 1
@@ -488,7 +492,10 @@ impl Row {
     fn furthest(&self, slot: usize, among: u8) -> Option<usize> {
         let leading = slots_of(among & bit(slot));
         let others = slots_of(among & !bit(slot));
-        let is_further = |next: usize, best: usize| self.shadows[next].step > self.shadows[best].step;
+        let is_further = |next: usize, best: usize| {
+            let (next, best) = (self.shadows[next].step, self.shadows[best].step);
+            next > best || (cfg!(plant = "last-of-equals") && next == best)
+        };
         leading.chain(others).reduce(|best, next| if is_further(next, best) { next } else { best })
     }
 
@@ -503,7 +510,8 @@ impl Row {
 
     /// Drops the shadows that have read a replaced page. Where the leading one goes, the furthest that remains leads.
     fn renew(&mut self, slot: usize, replaced: &[u32]) -> Spoils {
-        self.present = self.untouched_by(replaced);
+        let clean = self.untouched_by(replaced);
+        self.present = if cfg!(plant = "only-leads-dropped") { self.present & (clean | !bit(slot)) } else { clean };
         if self.has(slot) {
             return Spoils::default();
         }
@@ -594,12 +602,14 @@ impl Engine {
         }
         let next = row.script.steps[usize::from(shadow.step)];
         let page = shadow.page_read(next);
-        page.is_some_and(|page| !shadow.has_written(page) && self.leading(other).has_written(page))
+        let from_store = |page| cfg!(plant = "waits-for-own") || !shadow.has_written(page);
+        page.is_some_and(|page| from_store(page) && self.leading(other).has_written(page))
     }
 
     fn account(&mut self, slot: usize, other: usize) {
         let row = &self.rows[slot];
-        if !row.has(other) && row.present.count_ones() >= u32::from(self.allowance) {
+        let most = u32::from(self.allowance) + u32::from(cfg!(plant = "one-shadow-more"));
+        if !row.has(other) && row.present.count_ones() >= most {
             return;
         }
         let clean = row.untouched_by(self.leading(other).written_pages());
@@ -620,8 +630,8 @@ impl Engine {
     fn account_after_write(&mut self, slot: usize, page: u32) {
         for reader in slots_of(self.open & !bit(slot)) {
             let row = &self.rows[reader];
-            let unguarded = !row.has(slot) || row.shadows[slot].has_read(page);
-            if unguarded && self.leading(reader).has_read(page) {
+            let guessed = row.has(slot) && (cfg!(plant = "no-second-fork") || !row.shadows[slot].has_read(page));
+            if !guessed && self.leading(reader).has_read(page) {
                 self.account(reader, slot);
             }
         }
@@ -634,7 +644,7 @@ impl Engine {
         if let Some(lowest) = slots_of(self.open).next() {
             return Err(Refusal::SlotsOpen(lowest as u32));
         }
-        self.allowance = allowance as u8;
+        self.allowance = if cfg!(plant = "seven-for-eight") { allowance.min(7) as u8 } else { allowance as u8 };
         Ok([])
     }
 
@@ -664,11 +674,16 @@ impl Engine {
         let off_pages = |page| Refusal::OffPages { slot: number, step: u32::from(shadow.step), page };
         let effect = effect.map_err(off_pages)?;
         let leads = slot == other;
+        if cfg!(plant = "forks-after-read") {
+            self.rows[slot].shadows[other].take(step, effect);
+        }
         match effect {
             Effect::StoreRead { page, .. } if leads => self.account_before_read(slot, page),
             _ => {}
         }
-        self.rows[slot].shadows[other].take(step, effect);
+        if !cfg!(plant = "forks-after-read") {
+            self.rows[slot].shadows[other].take(step, effect);
+        }
         match effect {
             Effect::Write { page } if leads => self.account_after_write(slot, page),
             _ => {}

@@ -72,7 +72,7 @@ impl Plan {
 
     /// A slot with several shadows, under a host that does not keep still.
     fn unquiet(random: &mut Random) -> Self {
-        let count = random.between(3, 5) as usize;
+        let count = random.pick(&[3, 4, 5, SLOTS]);
         Plan {
             slots: some_slots(random, count),
             one_reads: true,

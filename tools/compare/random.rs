@@ -193,7 +193,17 @@ fn fit_steps(random: &mut Random, ground: Ground, strays: bool) -> Vec<CodedStep
 }
 
 pub fn fit_script(random: &mut Random, ground: Ground, strays: bool) -> Vec<u8> {
+    if random.chance(3) {
+        return full_script(random, ground);
+    }
     encode(&fit_steps(random, ground, strays))
+}
+
+/// Sixteen reads, or sixteen writes, of as many pages as there are: what a shadow has room for.
+fn full_script(random: &mut Random, ground: Ground) -> Vec<u8> {
+    let code = random.pick(&[READ, WRITE]);
+    let steps: Vec<CodedStep> = (0..16).map(|number| step(code, number as usize % 4, 0, number % ground.size.max(1))).collect();
+    encode(&steps)
 }
 
 /// Some steps off the hot pages, a read of a hot one, and a write of what they came to.
@@ -278,7 +288,8 @@ fn some_words(random: &mut Random, count: u32) -> Vec<u32> {
 fn few_pages(random: &mut Random) -> u32 {
     match random.below(20) {
         0 => random.below(2),
-        1..=4 => random.between(9, 12),
+        1..=3 => random.between(9, 12),
+        4 => random.between(16, 20),
         _ => random.between(2, 8),
     }
 }
