@@ -67,6 +67,15 @@ fn run_to_end<R: Reader, A: Arithmetic>(
     Ok(shadow)
 }
 
+// Puts an entry to the store, which has its page.
+fn put_entry<S: Store>(entry: &WriteEntry, store: &mut S)
+    requires { entry.now.page < length (S.Reader.pages store.old) }
+    ensures pages { S.Reader.pages store.new ≡ slice_set (S.Reader.pages store.old) entry.now.page entry.now.word }
+    ensures wrote { S.Store.wrote store.old entry.now.page entry.now.word store.new }
+{
+    store.put(entry.page, entry.word).unwrap();
+}
+
 // Puts an own list to the store, in list order. Its pages are all below the store's size, so no put is refused.
 pub(crate) fn put_all<S: Store>(own: &[WriteEntry], store: &mut S)
     requires { Inside (length (S.Reader.pages store.old)) own.now }
@@ -74,7 +83,7 @@ pub(crate) fn put_all<S: Store>(own: &[WriteEntry], store: &mut S)
     ensures chain { Chain S.Store.wrote store.old own.now store.new }
 {
     for entry in own {
-        store.put(entry.page, entry.word).unwrap();
+        put_entry(entry, store);
     }
 }
 

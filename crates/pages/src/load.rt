@@ -1,8 +1,19 @@
 // Loading: all pages of a reader copied into a store of the same size.
-ghost use Rattle.std.specs.Prelude.{length};
+ghost use Rattle.std.specs.Prelude.{◌≡◌, ◌<◌, length, slice_index, slice_set};
 ghost use Rattle.pages.specs.Load.{Loaded, ImageLoaded};
 
 use crate::{Image, ImageLoadFault, LoadFault, Reader, Store};
+
+// Copies a page that the reader and the store have.
+fn copy_page<R: Reader, S: Store>(page: u32, from: &R, into: &mut S)
+    requires there { page < length (R.Reader.pages from.now) }
+    requires room { page < length (S.Reader.pages into.old) }
+    ensures pages { S.Reader.pages into.new ≡ slice_set (S.Reader.pages into.old) page (slice_index (R.Reader.pages from.now) page) }
+    ensures wrote { S.Store.wrote into.old page (slice_index (R.Reader.pages from.now) page) into.new }
+{
+    let word = from.read(page).unwrap();
+    into.put(page, word).unwrap();
+}
 
 // Copies all pages of a reader into a store of the same size, in rising order.
 pub fn load_pages<R: Reader, S: Store>(from: &R, into: &mut S) -> Result<(), LoadFault>
@@ -14,8 +25,7 @@ pub fn load_pages<R: Reader, S: Store>(from: &R, into: &mut S) -> Result<(), Loa
         return Err(LoadFault::Sizes { reader, store });
     }
     for page in 0..reader {
-        let word = from.read(page).unwrap();
-        into.put(page, word).unwrap();
+        copy_page(page, from, into);
     }
     Ok(())
 }
