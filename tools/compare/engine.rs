@@ -1,5 +1,6 @@
-//! A second engine, in plain Rust. It is written from docs/ and include/gorsepick.h alone, without a look at the proved
-//! one, so that where the two agree, two readings of the rules agree.
+//! A second engine, in plain Rust. Its rules are written from docs/ and include/gorsepick.h alone, without a look at the
+//! proved one, so that where the two agree, two readings of the rules agree. Only how a log is cut and searched was worked
+//! out for speed on both sides at once, and looks alike.
 //!
 //! It allocates nothing, keeps no store and no arithmetic, and takes the host's words anew at each call.
 //!
