@@ -81,8 +81,9 @@ enum Pages {
     All,
 }
 
-/// Up to this size all pages are looked at after every call.
+/// Up to this size, or with no more entries than these in a log, all pages are looked at after every call.
 const FEW_PAGES: u32 = 64;
+const FEW_ENTRIES: u32 = 16;
 
 /// Numbers that name no slot, asked for now and then besides those that do.
 const STRANGE: [u32; 2] = [SLOTS as u32, u32::MAX];
@@ -155,7 +156,7 @@ impl Pair {
         let size = self.size();
         let proved = Linked::size(self.proved_words.all(), self.store.log);
         agree(|| "the store's size".to_string(), proved, size)?;
-        let stride = if size <= FEW_PAGES || pages == Pages::All { 1 } else { (size / FEW_PAGES) as usize };
+        let stride = if self.has_cheap_reads(size) || pages == Pages::All { 1 } else { (size / FEW_PAGES) as usize };
         (0..size).step_by(stride).try_for_each(|page| self.check_page(page))?;
         // One past the last, and in a large store the last, which the stride leaves out.
         (size.saturating_sub(1)..=size).try_for_each(|page| self.check_page(page))?;
@@ -163,6 +164,12 @@ impl Pair {
             self.check_page(u32::MAX)?;
         }
         Ok(())
+    }
+
+    /// A read of a log looks at its entries: a large store with many of them is looked at in places.
+    fn has_cheap_reads(&self, size: u32) -> bool {
+        let few_entries = !self.store.log || self.store.words.get(1).is_none_or(|&capacity| capacity <= FEW_ENTRIES);
+        size <= FEW_PAGES || few_entries
     }
 
     fn check_page(&mut self, page: u32) -> Result<(), Difference> {
