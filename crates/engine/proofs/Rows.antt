@@ -1,9 +1,9 @@
 -- What stands in a row, and turns of the loops over it. Assumes nothing.
-use Rattle.std.proofs.Common.{◌≡◌, ℕ, suc, ◌+◌, ◌<◌, Bool, not, List, [], ◌∷◌, ◌++◌, map, length, get_or, take, drop, set, is_some, Some, None, Option, Result, unwrap_or, sym, refl, ap, ◌∙◌, subst, arith, Bor}
+use Rattle.std.proofs.Common.{◌≡◌, ℕ, suc, ◌+◌, ◌<◌, Bool, true, not, List, [], ◌∷◌, ◌++◌, map, length, get_or, take, drop, set, is_some, Some, None, Option, Result, unwrap_or, sym, refl, ap, ◌∙◌, subst, arith}
 use Rattle.std.specs.List.{filter}
-use Rattle.std.specs.Option.{option_map, option_copied}
+use Rattle.std.specs.Option.{option_map}
 use Rattle.std.proofs.Math.ListN.{get_or-map}
-use Rattle.std.proofs.lemmas.List.{at_drop_more, length-map, map-set, get_or_default, set-get_or}
+use Rattle.std.proofs.lemmas.List.{length-map, map-set, get_or_default, set-get_or}
 use Rattle.std.proofs.lemmas.List.Edits.{map_over_more}
 use Rattle.pages.specs.declared.StoreFault.{StoreFault}
 use Rattle.script.specs.declared.Step.{Step}
@@ -11,16 +11,11 @@ use Rattle.serial.specs.Machine.{Meaning, Stand, start, Taken, moved, off_pages,
 use Rattle.serial.specs.Rules.{Row, better, furthest, furthest_of, any_shadow, count}
 use Rattle.serial.proofs.Conflicts.{read_any_nil}
 use Rattle.engine.specs.declared.shadow.Shadow.{Shadow}
-use Rattle.engine.specs.View.{stand_of, seen, Took}
+use Rattle.engine.specs.View.{stand_of, Took}
 use Rattle.engine.specs.Table.{unread, Lent}
 
 -- a list, seen through a view of each element
 module _ {X Y : Type 0} (f : X → Y) where
-  pub more_at_map : {Z : Type 0} (F : List Y → Z) (d : X) (xs : List X) (i : ℕ) → i < length xs → F (drop i (map f xs)) ≡ F (f (get_or xs i d) ∷ drop (i + 1) (map f xs))
-  more_at_map F d xs i low =
-      at_drop_more F (map f xs) i (f d) (simp length-map low)
-      ∙ ap (λ c. F (c ∷ drop (i + 1) (map f xs))) (get_or-map f xs i d)
-
   -- a loop that puts g of what it sees at each place
   module _ (g : Y → Y) (xs : List X) (i : ℕ) where
     pub over_more : (d : X) (ys : List X) (y : X) → i < length xs → length ys ≡ length xs → map f ys ≡ map g (take i (map f xs)) ++ drop i (map f xs) → f y ≡ g (f (get_or ys i d)) → map f (set ys i y) ≡ map g (take (i + 1) (map f xs)) ++ drop (i + 1) (map f xs)
@@ -48,14 +43,20 @@ furthest_any t cs = furthest_same (unread []) any_shadow (λ s. ap not (read_any
 abbrev pub view : List (Option Shadow) → Row
 view xs = map (option_map stand_of) xs
 
--- what is seen of a lent shadow is what is seen of a copy
-pub seen_copied : (r : Option (Bor Shadow)) → option_map seen r ≡ option_map stand_of (option_copied r)
-seen_copied None = refl
-seen_copied (Some s) = refl
-
 -- a row whose shadow for u is forgotten
 pub set_none : (xs : List (Option Shadow)) (u : ℕ) (o : Option Shadow) → o ≡ None → view (set xs u o) ≡ set (view xs) u None
 set_none xs u o e = map-set (option_map stand_of) xs u o ∙ ap (λ p. set (view xs) u (option_map stand_of p)) e
+
+-- what is there is what stands for it
+pub there_some : {X : Type 0} (o : Option X) (d : X) → is_some o ≡ true → o ≡ Some (unwrap_or o d)
+there_some None d h = absurd (cc)
+there_some (Some x) d h = refl
+
+-- a row whose shadow for u is a copy of the one at i
+pub set_copy : (xs : List (Option Shadow)) (u i : ℕ) → is_some (get_or (view xs) i None) ≡ true → view (set xs u (get_or xs i None)) ≡ set (view xs) u (Some (unwrap_or (get_or (view xs) i None) start))
+set_copy xs u i h =
+    map-set (option_map stand_of) xs u (get_or xs i None)
+    ∙ ap (set (view xs) u) (sym (get_or-map (option_map stand_of) xs i None) ∙ there_some (get_or (view xs) i None) start h)
 
 -- how many shadows there are, as a filter leaves them
 pub count_filtered : (xs : List (Option Shadow)) → length (filter (λ o. is_some o) xs) ≡ count (view xs)

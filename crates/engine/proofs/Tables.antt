@@ -1,20 +1,22 @@
 -- The rows and scripts of a table, and turns of the loops over them. Assumes nothing.
-use Rattle.std.proofs.Common.{◌≡◌, ℕ, zero, suc, ◌+◌, ◌<◌, Bool, true, false, List, [], ◌∷◌, ◌++◌, map, length, get_or, take, drop, set, is_some, Some, None, Option, sym, refl, ap, ◌∙◌, add-one, arith}
+use Rattle.std.proofs.Common.{◌≡◌, ℕ, zero, suc, ◌+◌, ◌<◌, ◌≤◌, ⊎_elim, Bool, true, false, List, [], ◌∷◌, ◌++◌, map, length, get_or, take, drop, set, is_some, Some, None, Option, sym, refl, ap, ◌∙◌, add-one, arith}
 use Rattle.std.specs.List.{find, range_with_len}
 use Rattle.std.proofs.Math.ListN.{get_or-map}
 use Rattle.std.proofs.Math.Seq.{map-set_same}
-use Rattle.std.proofs.lemmas.List.{length-map, map-set}
-use Rattle.std.proofs.lemmas.Bool.{cond-true, cond-false}
+use Rattle.std.proofs.lemmas.List.{length-map, length-set, map-set, set-get_or, get_or_past, get_or-set_same, get_or-set_other}
+use Rattle.std.proofs.lemmas.Bool.{cond-true, cond-false, cases_lt, cases_eq}
 use Rattle.pages.specs.declared.WriteEntry.{WriteEntry}
 use Rattle.script.specs.declared.Script.{Script}
 use Rattle.script.specs.View.{steps_of}
 use Rattle.serial.specs.Machine.{Steps, Stand, start}
-use Rattle.serial.specs.Rules.{Engine, slots, no_shadows, with_shadow, first_open, begun, closed, renewed, renew}
+use Rattle.serial.specs.Rules.{Engine, slots, no_shadows, with_shadow, first_open, shadow, begun, closed, renewed, renew, committed}
 use Rattle.serial.specs.Rules as rules
+use Rattle.serial.specs.Sound.{ClosedBare}
+use Rattle.serial.proofs.Table.{nothing_at, none_is}
 use Rattle.engine.specs.declared.row.Row.{Row}
 use Rattle.engine.specs.declared.table.Held.{Held}
 use Rattle.engine.specs.declared.table.Table.{Table}
-use Rattle.engine.specs.Table.{row_of, script_held, row_held, engine_of, without_column}
+use Rattle.engine.specs.Table.{row_of, script_held, row_held, engine_of, with_rows, without_slot, without_column}
 
 -- what stands past the last slot
 abbrev pub no_held : Held
@@ -42,11 +44,38 @@ opened b t script s e =
     ∙ ap (λ q. with_shadow (record { allowance = b.allowance; scripts = set (map script_held b.slots) t (Some (steps_of script)); shadows = q }) t t (Some s)) (map-set_same row_held b.slots t h no_held refl)
     ∙ ap (λ x. with_shadow (record { allowance = b.allowance; scripts = set (map script_held b.slots) t (Some (steps_of script)); shadows = map row_held b.slots }) t t (Some x)) e
 
-pub closed_by : (b m : Table) (t : ℕ) (h : Held) → engine_of m ≡ without_column (engine_of b) t → script_held h ≡ None → row_held h ≡ no_shadows → engine_of (record { allowance = m.allowance; slots = set m.slots t h }) ≡ closed (engine_of b) t (map row_held b.slots)
-closed_by b m t h k none bare =
-    same_engine (ap (λ (q : Engine). q.allowance) k)
-    (map-set script_held m.slots t h ∙ ap (λ (q : Engine). set q.scripts t (script_held h)) k ∙ ap (set (map script_held b.slots) t) none)
-    (map-set row_held m.slots t h ∙ ap (λ (q : Engine). set q.shadows t (row_held h)) k ∙ ap (set (map (rules.cleared t) (map row_held b.slots)) t) bare)
+pub slot_cleared : (b : Table) (t : ℕ) (h : Held) → script_held h ≡ None → row_held h ≡ no_shadows → engine_of (record { allowance = b.allowance; slots = set b.slots t h }) ≡ without_slot (engine_of b) t
+slot_cleared b t h none bare =
+    same_engine refl (map-set script_held b.slots t h ∙ ap (set (map script_held b.slots) t) none)
+    (map-set row_held b.slots t h ∙ ap (set (map row_held b.slots) t) bare)
+
+-- a row with no shadow has none for t
+cleared_bare : (t : ℕ) → rules.cleared t no_shadows ≡ no_shadows
+cleared_bare t = ap (set no_shadows t) (sym (nothing_at 8 t)) ∙ set-get_or no_shadows t None
+
+cleared-set : (t : ℕ) (rows : List rules.Row) → map (rules.cleared t) (set rows t no_shadows) ≡ rules.without rows t
+cleared-set t rows = map-set (rules.cleared t) rows t no_shadows ∙ ap (set (map (rules.cleared t) rows) t) (cleared_bare t)
+
+-- a slot closes by its own row and then the shadows for it
+pub closed_by : (e : Engine) (t : ℕ) → without_column (without_slot e t) t ≡ closed e t e.shadows
+closed_by e t = same_engine refl refl (cleared-set t e.shadows)
+
+module _ (e : Engine) (t u : ℕ) where
+  row_gone : shadow (without_slot e t) t u ≡ None
+  row_gone =
+      ⊎_elim
+      (λ (l : t < length e.shadows). ap (λ r. get_or r u None) (get_or-set_same e.shadows t no_shadows [] l) ∙ nothing_at 8 u)
+      (λ (l : length e.shadows ≤ t). ap (λ r. get_or r u None) (get_or_past (set e.shadows t no_shadows) t [] (simp length-set l)))
+      (cases_lt t (length e.shadows))
+
+pub bare_without : (e : Engine) (t : ℕ) → ClosedBare e → ClosedBare (without_slot e t)
+bare_without e t bare v u shut =
+    ⊎_elim
+    (λ (q : v ≡ t). ap (λ w. is_some (shadow (without_slot e t) w u)) q ∙ ap is_some (row_gone e t u))
+    (λ (q : v ≡ t → ⊥).
+    ap (λ r. is_some (get_or r u None)) (get_or-set_other e.shadows t v no_shadows [] q)
+    ∙ bare v u (sym (ap is_some (get_or-set_other e.scripts t v None None q)) ∙ shut))
+    (cases_eq v t)
 
 -- a loop that renews each row
 module _ (own : List WriteEntry) where
@@ -65,12 +94,21 @@ module _ (own : List WriteEntry) where
   remaining_bare (None ∷ r) h = ap (λ q. None ∷ q) (remaining_bare r (λ u. h (suc u)))
   remaining_bare (Some s ∷ r) h = absurd (let z : true ≡ false = h 0 in cc)
 
-  spoils_none : (o : Option Stand) → is_some o ≡ false → rules.spoils own o ≡ false
-  spoils_none None h = refl
-  spoils_none (Some s) h = absurd (cc)
-
   renewed_bare : (v : ℕ) (r : rules.Row) → ((u : ℕ) → is_some (get_or r u None) ≡ false) → renewed own v r ≡ r
-  renewed_bare v r h = cond-false (rules.spoils own (get_or r v None)) _ _ (spoils_none (get_or r v None) (h v)) ∙ remaining_bare r h
+  renewed_bare v r h = cond-false (rules.spoils own (get_or r v None)) _ _ (ap (rules.spoils own) (none_is (get_or r v None) (h v))) ∙ remaining_bare r h
+
+  -- a row that is its own renewal may be put before the others are renewed, or after
+  renew_set : (x : rules.Row) → ((w : ℕ) → renewed own w x ≡ x) → (v : ℕ) (rows : List rules.Row) (t : ℕ) → renew own v (set rows t x) ≡ set (renew own v rows) t x
+  renew_set x same v [] t = refl
+  renew_set x same v (r ∷ rows) zero = ap (λ q. q ∷ renew own (suc v) rows) (same v)
+  renew_set x same v (r ∷ rows) (suc t) = ap (λ q. renewed own v r ∷ q) (renew_set x same (suc v) rows t)
+
+  -- a commit: the slot's own row goes, the others are renewed, and the shadows for it go
+  pub committed_by : (e : Engine) (t : ℕ) → without_column (with_rows (without_slot e t) (renew own 0 (set e.shadows t no_shadows))) t ≡ committed e t own
+  committed_by e t =
+      same_engine refl refl
+      (ap (map (rules.cleared t)) (renew_set no_shadows (λ w. renewed_bare w no_shadows (λ u. ap is_some (nothing_at 8 u))) 0 e.shadows t)
+      ∙ cleared-set t (renew own 0 e.shadows))
 
   renewed-skip : (v : ℕ) (xs : List rules.Row) (i : ℕ) → i < length xs → renewed own (v + i) (get_or xs i []) ≡ get_or xs i [] → renew own v (take i xs) ++ drop i xs ≡ renew own v (take (suc i) xs) ++ drop (suc i) xs
   renewed-skip v [] i low h = absurd (omega arith)

@@ -17,11 +17,6 @@ use Rattle.engine.specs.Table.{row_of, row_held, engine_of, Lent, page_needed, p
 use Rattle.engine.proofs.Tables.{no_held, with_row, row-set}
 use Rattle.engine.proofs.Accounts.{before_keeps}
 
--- what is there is what stands for it
-pub there_some : {X : Type 0} (o : Option X) (d : X) → is_some o ≡ true → o ≡ Some (unwrap_or o d)
-there_some None d h = absurd (cc)
-there_some (Some x) d h = refl
-
 -- a row's step is the table's
 module _ (b : Table) (t u : ℕ) where
   abbrev pub with_step : Row → Table

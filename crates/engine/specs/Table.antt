@@ -1,5 +1,5 @@
 -- The table of shadows as the rules have it. Assumes nothing.
-use Rattle.std.specs.Prelude.{◌≡◌, ℕ, Bool, cond, not, List, map, Some, None, Ok, Err, Option, Result, ◌==◌, nat_lt, slice_set}
+use Rattle.std.specs.Prelude.{◌≡◌, ℕ, Bool, true, cond, not, List, map, is_some, Some, None, Ok, Err, Option, Result, ◌==◌, nat_lt, slice_index_or, slice_set}
 use Rattle.std.specs.Option.{option_map}
 use Rattle.pages.specs.Pages.{fault_at}
 use Rattle.pages.specs.declared.StoreFault.{StoreFault}
@@ -9,7 +9,7 @@ use Rattle.script.specs.View.{steps_of}
 use Rattle.serial.specs.declared.fault.StepFault.{StepFault}
 use Rattle.serial.specs.Faults.{step_fault}
 use Rattle.serial.specs.Machine.{Steps, Stand, Taken, moved, off_pages, store_read, write_of, has_read_any}
-use Rattle.serial.specs.Rules.{Engine, with_shadow, before_step, after_step, cleared}
+use Rattle.serial.specs.Rules.{Engine, no_shadows, with_shadow, before_step, after_step, cleared}
 use Rattle.engine.specs.View.{stand_of}
 use Rattle.engine.specs.declared.row.Row.{Row}
 use Rattle.engine.specs.declared.table.Held.{Held}
@@ -36,9 +36,24 @@ with_allowance e k = record { allowance = k; scripts = e.scripts; shadows = e.sh
 abbrev pub with_rows : Engine → List (List (Option Stand)) → Engine
 with_rows e rows = record { allowance = e.allowance; scripts = e.scripts; shadows = rows }
 
+-- without t's script and row
+abbrev pub without_slot : Engine → ℕ → Engine
+without_slot e t =
+    record { allowance = e.allowance; scripts = slice_set e.scripts t None; shadows = slice_set e.shadows t no_shadows }
+
 -- without the shadows for t
 abbrev pub without_column : Engine → ℕ → Engine
 without_column e t = with_rows e (map (cleared t) e.shadows)
+
+-- the shadow at a place of a row, where one is given
+abbrev pub placed : List (Option Stand) → Option ℕ → Option Stand
+placed shadows None = None
+placed shadows (Some u) = slice_index_or shadows u None
+
+-- and there is one at a place that is given
+abbrev pub IsThere : List (Option Stand) → Option ℕ → Type 0
+IsThere shadows None = Unit {0}
+IsThere shadows (Some u) = is_some (slice_index_or shadows u None) ≡ true
 
 -- a shadow that has read no page of the list
 abbrev pub unread : List WriteEntry → Stand → Bool

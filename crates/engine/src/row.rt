@@ -2,9 +2,9 @@
 ghost use Rattle.std.specs.Prelude.{◌≡◌, ◌+◌, ◌<◌, true, [], ◌∷◌, is_some, Some, None, slice_index_or, slice_set};
 ghost use Rattle.std.specs.Option.{unwrap_or, option_map};
 ghost use Rattle.serial.specs.Machine.{start as started, takes};
-ghost use Rattle.serial.specs.Rules.{no_shadows, ahead, better as better_of, furthest_of, any_shadow, count as counted, kept, remaining, spoils, renewed};
+ghost use Rattle.serial.specs.Rules.{no_shadows, place_of, better as better_of, furthest_of, any_shadow, count as counted, kept, remaining, spoils, renewed};
 ghost use Rattle.engine.specs.View.{stand_of, seen, Room};
-ghost use Rattle.engine.specs.Table.{row_of, unread, Lent};
+ghost use Rattle.engine.specs.Table.{row_of, unread, placed, IsThere, Lent};
 
 use crate::machine::Machine;
 use crate::shadow::Shadow;
@@ -16,28 +16,6 @@ use script::Step;
 #[derive(Clone, Copy)]
 pub struct Row {
     entries: [Option<Shadow>; SLOTS],
-}
-
-fn is_ahead(shadow: &Shadow, best: Option<&Shadow>) -> bool
-    ensures { result ≡ ahead (stand_of shadow.now) (option_map seen best.entry) }
-{
-    best.is_none_or(|known| known.step() < shadow.step())
-}
-
-// The better of two: the first, unless the other has read no page of the list and is ahead. They are lent: a copy costs more
-// than the choice.
-fn better<'a>(
-    best: Option<&'a Shadow>,
-    other: Option<&'a Shadow>,
-    list: &[WriteEntry],
-) -> Option<&'a Shadow>
-    ensures { option_map seen result ≡ better_of (unread list.now) (option_map seen best.entry) (option_map seen other.entry) }
-{
-    match other {
-        Some(shadow) if !shadow.has_read_any(list) && is_ahead(shadow, best) => other,
-        // Tried as `filter` and `or`, and by `is_some_and`: of a test that holds a lent shadow the check learns nothing.
-        _ => best,
-    }
 }
 
 // Leaves no shadow. Most entries have none, and `None` is written over all the room of one.
@@ -83,10 +61,23 @@ impl Row {
         self.entries[u.index()].as_ref()
     }
 
-    pub(crate) fn put(&mut self, u: Slot, entry: Option<Shadow>)
-        ensures { row_of self.new ≡ slice_set (row_of self.old) u (option_map stand_of entry) }
+    // Where the shadow for u stands.
+    pub(crate) fn step_at(&self, u: Slot) -> usize
+        ensures { result ≡ place_of (slice_index_or (row_of self.now) u None) }
     {
-        self.entries[u.index()] = entry;
+        self.get(u).map_or(0, |shadow| shadow.step())
+    }
+
+    // The shadow for u becomes a copy of the one at a place of the row, or a start where no place is given.
+    pub(crate) fn fork(&mut self, u: Slot, from: Option<Slot>)
+        requires there { IsThere (row_of self.old) from }
+        ensures { row_of self.new ≡ slice_set (row_of self.old) u (Some (unwrap_or (placed (row_of self.old) from) started)) }
+    {
+        match from {
+            // Copied from place to place: by way of a value a shadow would be copied three times.
+            Some(i) => self.entries[u.index()] = self.entries[i.index()],
+            None => self.entries[u.index()] = Some(Shadow::start()),
+        }
     }
 
     // Takes the shadow for u away.
@@ -113,23 +104,43 @@ impl Row {
         self.entries.iter().filter(|entry| entry.is_some()).count()
     }
 
-    // The furthest of slot t's shadows that have read no page of the list.
-    pub(crate) fn furthest_clean(&self, t: Slot, list: &[WriteEntry]) -> Option<&Shadow>
-        ensures { option_map seen result ≡ furthest_of (unread list.now) t (row_of self.now) }
+    // The further of two places: the first, unless the shadow at the other is ahead.
+    fn further(&self, best: Option<Slot>, other: Slot) -> Slot
+        requires there { IsThere (row_of self.now) best }
+        requires other { is_some (slice_index_or (row_of self.now) other None) ≡ true }
+        ensures rule { slice_index_or (row_of self.now) result None ≡ better_of any_shadow (placed (row_of self.now) best) (slice_index_or (row_of self.now) other None) }
+        ensures there { is_some (slice_index_or (row_of self.now) result None) ≡ true }
     {
-        // A `for`, tried as a `fold`: of `better` only the view of its answer is known, and a fold's proof asks for a function.
-        let mut best = better(None, self.get(t), list);
-        for entry in &self.entries {
-            best = better(best, entry.as_ref(), list);
+        match best {
+            Some(known) if self.step_at(other) <= self.step_at(known) => known,
+            _ => other,
         }
-        best
     }
 
-    // The furthest of slot t's shadows: none has read a page of the empty list.
-    pub(crate) fn furthest(&self, t: Slot) -> Option<&Shadow>
-        ensures { option_map seen result ≡ furthest_of any_shadow t (row_of self.now) }
+    // The better of two places: the first, unless the shadow at the other has read no page of the list and is ahead.
+    fn better(&self, best: Option<Slot>, other: Slot, list: &[WriteEntry]) -> Option<Slot>
+        requires there { IsThere (row_of self.now) best }
+        ensures rule { placed (row_of self.now) result ≡ better_of (unread list.now) (placed (row_of self.now) best) (slice_index_or (row_of self.now) other None) }
+        ensures there { IsThere (row_of self.now) result }
     {
-        self.furthest_clean(t, &[])
+        match self.get(other) {
+            Some(shadow) if !shadow.has_read_any(list) => Some(self.further(best, other)),
+            // Tried as `filter` and `or`, and by `is_some_and`: of a test that holds a lent shadow the check learns nothing.
+            _ => best,
+        }
+    }
+
+    // Where the furthest of slot t's shadows that have read no page of the list stands.
+    pub(crate) fn furthest_clean(&self, t: Slot, list: &[WriteEntry]) -> Option<Slot>
+        ensures rule { placed (row_of self.now) result ≡ furthest_of (unread list.now) t (row_of self.now) }
+        ensures there { IsThere (row_of self.now) result }
+    {
+        // A `for`, tried as a `fold`: of `better` only the view of its answer is known, and a fold's proof asks for a function.
+        let mut best = self.better(None, t, list);
+        for u in Slot::all() {
+            best = self.better(best, u, list);
+        }
+        best
     }
 
     // Drops each shadow that has read a page of the list.
@@ -142,12 +153,12 @@ impl Row {
         }
     }
 
-    // Slot v's furthest shadow leads from here on, or else one at step 0.
+    // Slot v's furthest shadow leads from here on, or else one at step 0. None has read a page of the empty list.
     fn lead_again(&mut self, v: Slot)
         ensures { row_of self.new ≡ slice_set (row_of self.old) v (Some (unwrap_or (furthest_of any_shadow v (row_of self.old)) started)) }
     {
-        let lead = self.furthest(v).copied().unwrap_or_else(Shadow::start);
-        self.put(v, Some(lead));
+        let furthest = self.furthest_clean(v, &[]);
+        self.fork(v, furthest);
     }
 
     // Slot v's row after a commit of the list: without those that have read a page of it, and with a leading shadow still.

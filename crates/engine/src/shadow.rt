@@ -1,6 +1,7 @@
 // A shadow: how far a script has come on its own, over pages that it does not change.
 ghost use Rattle.std.specs.Prelude.{◌≡◌};
 ghost use Rattle.std.specs.List.{slice_get};
+ghost use Rattle.basics.specs.Trail.{items_of};
 ghost use Rattle.serial.specs.Machine.{start as started, holds, written as word_written, has_read, has_written, has_read_any, indexed, page_read, page_written, store_read, write_of};
 ghost use Rattle.engine.specs.View.{stand_of, Placed};
 
@@ -72,6 +73,13 @@ impl Shadow {
         ensures { result.now ≡ (stand_of self.now).own }
     {
         self.own.as_slice()
+    }
+
+    // A copy of the own list.
+    pub(crate) fn list(&self) -> Trail<WriteEntry, MOST_STEPS>
+        ensures { items_of result ≡ (stand_of self.now).own }
+    {
+        self.own
     }
 
     pub fn register(&self, register: Register) -> u32

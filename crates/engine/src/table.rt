@@ -6,7 +6,7 @@ ghost use Rattle.serial.specs.Machine.{start as started};
 ghost use Rattle.serial.specs.Rules.{slots, no_shadows, fresh_engine, script_of, is_open, row as row_at, shadow as shadow_at, with_shadow, begun, closed, renew, committed};
 ghost use Rattle.serial.specs.Sound.{ClosedBare};
 ghost use Rattle.engine.specs.View.{stand_of, seen, steps_seen};
-ghost use Rattle.engine.specs.Table.{row_of, engine_of, with_allowance, script_held, row_held, with_rows, without_column};
+ghost use Rattle.engine.specs.Table.{row_of, engine_of, with_allowance, script_held, row_held, with_rows, without_slot, without_column, placed, IsThere};
 
 use crate::row::Row;
 use crate::shadow::Shadow;
@@ -108,17 +108,12 @@ impl Table {
         self.row(t).get(u)
     }
 
-    // The leading shadow of an open slot.
-    pub(crate) fn lead(&self, t: Slot) -> Shadow
-        ensures { stand_of result ≡ unwrap_or (shadow_at (engine_of self.now) t t) started }
+    // Slot t's shadow for u becomes a copy of the one at a place of t's row, or a start where no place is given.
+    pub(crate) fn fork(&mut self, t: Slot, u: Slot, from: Option<Slot>)
+        requires there { IsThere (row_at (engine_of self.old) t) from }
+        ensures { engine_of self.new ≡ with_shadow (engine_of self.old) t u (Some (unwrap_or (placed (row_at (engine_of self.old) t) from) started)) }
     {
-        self.shadow(t, t).copied().unwrap_or_else(Shadow::start)
-    }
-
-    pub(crate) fn put_shadow(&mut self, t: Slot, u: Slot, entry: Option<Shadow>)
-        ensures { engine_of self.new ≡ with_shadow (engine_of self.old) t u (option_map stand_of entry) }
-    {
-        self.slots[t.index()].row.put(u, entry);
+        self.slots[t.index()].row.fork(u, from);
     }
 
     // Opens slot t with a leading shadow at step 0.
@@ -126,7 +121,7 @@ impl Table {
         ensures { engine_of self.new ≡ begun (engine_of self.old) t (steps_of script) }
     {
         self.slots[t.index()].script = Some(script);
-        self.put_shadow(t, t, Some(Shadow::start()));
+        self.fork(t, t, None);
     }
 
     // Takes away every shadow for slot t.
@@ -139,16 +134,23 @@ impl Table {
         }
     }
 
+    // Takes away slot t's script and row.
+    fn clear_slot(&mut self, t: Slot)
+        ensures { engine_of self.new ≡ without_slot (engine_of self.old) t }
+    {
+        self.slots[t.index()].close();
+    }
+
     // Closes slot t: its row goes, and every shadow for it.
     pub(crate) fn close_slot(&mut self, t: Slot)
         ensures { engine_of self.new ≡ closed (engine_of self.old) t (engine_of self.old).shadows }
     {
+        self.clear_slot(t);
         self.clear_column(t);
-        self.slots[t.index()].close();
     }
 
     // Every row after a commit of the list. A closed slot has no shadow, and its row is not looked at.
-    pub(crate) fn renew_all(&mut self, own: &[WriteEntry])
+    fn renew_all(&mut self, own: &[WriteEntry])
         requires bare { ClosedBare (engine_of self.old) }
         ensures { engine_of self.new ≡ with_rows (engine_of self.old) (renew own.now 0 (engine_of self.old).shadows) }
     {
@@ -164,7 +166,9 @@ impl Table {
         requires bare { ClosedBare (engine_of self.old) }
         ensures { engine_of self.new ≡ committed (engine_of self.old) t own.now }
     {
+        // t's own row first: it need not be renewed. The shadows for t last: they take over.
+        self.clear_slot(t);
         self.renew_all(own);
-        self.close_slot(t);
+        self.clear_column(t);
     }
 }

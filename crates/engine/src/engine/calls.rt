@@ -97,7 +97,7 @@ impl Engine {
     {
         let t = Slot::try_from(slot)?;
         let script = self.table.script(t).ok_or(CallFault::NotOpen(slot))?;
-        let lead = self.table.lead(t);
+        let lead = self.table.shadow_at(t, t);
         if lead.step() < script.len() {
             return Err(CallFault::NotEnded(lead.step()));
         }
@@ -105,8 +105,11 @@ impl Engine {
             return Err(CallFault::Unwritable(slot, StoreFault { page }));
         }
         put_all(lead.own(), store);
-        self.table.commit_slot(t, lead.own());
-        Ok((lead.register(Register::R0), lead.own().len()))
+        let word = lead.register(Register::R0);
+        // A copy, since the table changes while it is looked at.
+        let own = lead.list();
+        self.table.commit_slot(t, own.as_slice());
+        Ok((word, own.len()))
     }
 
     // Closes a slot, and changes no page.

@@ -3,8 +3,8 @@ ghost use Rattle.std.specs.Prelude.{◌≡◌};
 ghost use Rattle.std.specs.Option.{option_map};
 ghost use Rattle.serial.specs.Machine.{has_read, has_written as stands_on};
 ghost use Rattle.serial.specs.Rules.{slots, row as row_at, own_of, reads_of, shadow as shadow_at, lead_writes, clean, furthest_of, has_room, account as accounted, read_conflict, account_read, account_reads, write_conflict, account_write, account_writes, before_step, after_step};
-ghost use Rattle.engine.specs.View.{stand_of, seen};
-ghost use Rattle.engine.specs.Table.{engine_of};
+ghost use Rattle.engine.specs.View.{seen};
+ghost use Rattle.engine.specs.Table.{engine_of, placed, IsThere};
 
 use super::Table;
 use crate::shadow::{Shadow, has_written};
@@ -37,9 +37,10 @@ impl Table {
             .is_some_and(|shadow| shadow.has_read(page))
     }
 
-    // The furthest of slot t's shadows that have read nothing u's leading shadow has written.
-    fn furthest_for(&self, t: Slot, u: Slot) -> Option<&Shadow>
-        ensures { option_map seen result ≡ furthest_of (clean (engine_of self.now) u) t (row_at (engine_of self.now) t) }
+    // Where in its row the furthest of slot t's shadows that have read nothing u's leading shadow has written stands.
+    fn furthest_for(&self, t: Slot, u: Slot) -> Option<Slot>
+        ensures rule { placed (row_at (engine_of self.now) t) result ≡ furthest_of (clean (engine_of self.now) u) t (row_at (engine_of self.now) t) }
+        ensures there { IsThere (row_at (engine_of self.now) t) result }
     {
         self.row(t).furthest_clean(t, own_of(self.shadow(u, u)))
     }
@@ -56,11 +57,8 @@ impl Table {
         ensures { engine_of self.new ≡ accounted (engine_of self.old) t u }
     {
         if self.has_room(t, u) {
-            let copy = self
-                .furthest_for(t, u)
-                .copied()
-                .unwrap_or_else(Shadow::start);
-            self.put_shadow(t, u, Some(copy));
+            let furthest = self.furthest_for(t, u);
+            self.fork(t, u, furthest);
         }
     }
 

@@ -1,8 +1,7 @@
 // Turns: what a shadow's next turn finds, and the step that it takes.
 ghost use Rattle.std.specs.Prelude.{◌≡◌, true, length, is_some, Some};
-ghost use Rattle.std.specs.Option.{unwrap_or};
 ghost use Rattle.script.specs.View.{steps_of};
-ghost use Rattle.serial.specs.Machine.{start as started, takes};
+ghost use Rattle.serial.specs.Machine.{takes};
 ghost use Rattle.serial.specs.Alone.{next, on_list};
 ghost use Rattle.serial.specs.Rules.{script_of, shadow as shadow_at, with_shadow, place_of, lead_writes, shadow_moves, waits as has_to_wait, standing as stands};
 ghost use Rattle.engine.specs.View.{stand_of, Room};
@@ -69,7 +68,7 @@ impl Table {
     fn lead_step(&self, t: Slot) -> usize
         ensures { result ≡ place_of (shadow_at (engine_of self.now) t t) }
     {
-        self.shadow(t, t).map_or(0, |lead| lead.step())
+        self.row(t).step_at(t)
     }
 
     fn is_on_list(&self, u: Slot, page: Option<u32>) -> bool
@@ -116,8 +115,8 @@ impl Table {
         machine: &Machine<R, A>,
     ) -> Result<(), StoreFault>
         requires there { is_some (shadow_at (engine_of self.old) t u) ≡ true }
-        requires room { Room (unwrap_or (shadow_at (engine_of self.old) t u) started) }
-        ensures { Stepped self.old (λ e. with_shadow (engine_of self.old) t u (Some e)) (takes (A.Arithmetic.meaning machine.now.arithmetic.now) (R.Reader.pages machine.now.reader.now) step.now (unwrap_or (shadow_at (engine_of self.old) t u) started)) result self.new }
+        requires room { Room (stand_at (engine_of self.old) t u) }
+        ensures { Stepped self.old (λ e. with_shadow (engine_of self.old) t u (Some e)) (takes (A.Arithmetic.meaning machine.now.arithmetic.now) (R.Reader.pages machine.now.reader.now) step.now (stand_at (engine_of self.old) t u)) result self.new }
     {
         self.slots[t.index()].row.step(u, step, machine)
     }

@@ -5,7 +5,7 @@ use Rattle.engine.specs.Table.{engine_of}
 use Rattle.engine.specs.Calls.{state_of}
 use Rattle.engine.specs.Named.{NamedBy, script_at, stand_at}
 use Rattle.engine.proofs.Called.{turned_to, turned_kept, turn_answer}
-use Rattle.engine.proofs.Turns.{there_some}
+use Rattle.engine.proofs.Rows.{there_some}
 use Rattle.engine.proofs.engine.Engine.turn.Goals as goal
 
 pub invariant_of-self : goal.invariant_of-self

@@ -1,16 +1,31 @@
-use Rattle.std.proofs.Common.{◌+◌, drop, None, sym, ap, ◌∙◌, arith}
-use Rattle.std.specs.Option.{option_map}
+use Rattle.std.proofs.Common.{◌+◌, ◌<◌, ◌≤◌, drop, length, get_or, None, sym, ap, ◌∙◌, arith}
+use Rattle.std.proofs.lemmas.List.{at_drop_more, at_drop_all, length-map}
 use Rattle.serial.specs.Rules.{better, furthest}
-use Rattle.engine.specs.View.{stand_of, seen}
-use Rattle.engine.specs.Table.{unread}
-use Rattle.engine.proofs.Rows.{view, more_at_map, seen_copied}
+use Rattle.engine.specs.Table.{row_of, unread, placed}
+use Rattle.engine.proofs.Accounts.{slot_at}
 use Rattle.engine.proofs.row.Row.furthest_clean.Goals as goal
 
-pub loop-entry-preserved : goal.loop-entry-preserved
-loop-entry-preserved c =
-    let all = c.args.self.now.entries in
-    let i = c.loop-entry.entry-index in
+pub loop-u-preserved : goal.loop-u-preserved
+loop-u-preserved c =
+    let shadows = row_of c.args.self.now in
+    let i = c.loop-u.u-index in
     let test = unread c.args.list.now in
-    ap (λ b. furthest test b (drop (i + 1) (view all))) (c.better-best-in-loop-entry.ensures ∙ ap (better test (option_map seen c.loop-entry.best)) (seen_copied c.as_ref.result ∙ ap (option_map stand_of) c.as_ref.ensures.value))
-    ∙ sym (more_at_map (option_map stand_of) (furthest test (option_map seen c.loop-entry.best)) None all i (omega arith))
-    ∙ c.loop-entry.invariant
+    let best = placed shadows c.loop-u.best in
+    let is = slot_at c.all-u-items.result i c.u-item.result c.all-u-items.ensures c.loop-u-test.true in
+    let low : i < length shadows = simp length-map (omega arith) in
+    record {
+      found =
+          ap (λ b. furthest test b (drop (i + 1) shadows)) (c.better-best-in-loop-u.ensures.rule ∙ ap (λ u. better test best (get_or shadows u None)) is)
+          ∙ sym (at_drop_more (furthest test best) shadows i None low)
+          ∙ c.loop-u.invariant.found;
+      there = c.better-best-in-loop-u.ensures.there;
+    }
+
+pub returns : goal.returns
+returns c =
+    let shadows = row_of c.args.self.now in
+    let past : length shadows ≤ c.loop-u.u-index = simp length-map (omega arith) in
+    record {
+      rule = sym (at_drop_all (furthest (unread c.args.list.now) (placed shadows c.loop-u.best)) shadows c.loop-u.u-index past) ∙ c.loop-u.invariant.found;
+      there = c.loop-u.invariant.there;
+    }

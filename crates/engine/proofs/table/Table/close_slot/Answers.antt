@@ -1,7 +1,10 @@
+use Rattle.std.proofs.Common.{ap, ◌∙◌}
+use Rattle.serial.specs.Rules.{Engine}
+use Rattle.engine.specs.Table.{engine_of, without_column}
 use Rattle.engine.proofs.Tables.{closed_by}
 use Rattle.engine.proofs.table.Table.close_slot.Goals as goal
 
 pub returns : goal.returns
 returns c =
-    rw c.index.ensures.place
-    (closed_by c.args.self.now c.clear_column.new.self c.args.t c.close.new.self c.clear_column.ensures c.close.ensures.script c.close.ensures.row)
+    c.clear_column.ensures ∙ ap (λ (e : Engine). without_column e c.args.t) c.clear_slot.ensures
+    ∙ closed_by (engine_of c.args.self.now) c.args.t

@@ -3,7 +3,8 @@ use Rattle.serial.specs.Machine.{start, takes}
 use Rattle.serial.specs.Rules.{shadow}
 use Rattle.engine.specs.View.{stand_of, Room}
 use Rattle.engine.specs.Table.{engine_of, lead_takes, Stepped}
-use Rattle.engine.proofs.Turns.{there_some, passed, never_stops, lead_there, lead_room, lead_stepped, lead_moved}
+use Rattle.engine.proofs.Rows.{there_some}
+use Rattle.engine.proofs.Turns.{passed, never_stops, lead_there, lead_room, lead_stepped, lead_moved}
 use Rattle.engine.proofs.table.Table.step_lead.Goals as goal
 
 pub step-requires : goal.step-requires
