@@ -32,7 +32,7 @@ extern "C" {
 
 /* Room for an engine: eight slots with their scripts and shadows. Its contents are plain data, with no pointers among them:
  * copy it, keep many, put it where you like. */
-#define GORSEPICK_ENGINE_WORDS 3601
+#define GORSEPICK_ENGINE_WORDS 2514
 typedef struct gorsepick_memory {
     uint64_t words[GORSEPICK_ENGINE_WORDS];
 } gorsepick_memory;

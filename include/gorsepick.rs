@@ -4,7 +4,7 @@
 #![allow(dead_code)]
 
 /// GORSEPICK_ENGINE_WORDS of the header.
-const ENGINE_WORDS: usize = 3601;
+const ENGINE_WORDS: usize = 2514;
 
 /// An engine's memory: eight slots with their scripts and shadows. A plain value, and so is a copy of it.
 #[repr(C)]

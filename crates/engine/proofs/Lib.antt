@@ -1,3 +1,4 @@
+pub mod BySlots
 pub mod Lists
 pub mod Rows
 pub mod Tables

@@ -1,18 +1,23 @@
 -- What stands in a row, and turns of the loops over it. Assumes nothing.
-use Rattle.std.proofs.Common.{◌≡◌, ℕ, suc, ◌+◌, ◌<◌, Bool, true, not, List, [], ◌∷◌, ◌++◌, map, length, get_or, take, drop, set, is_some, Some, None, Option, Result, unwrap_or, sym, refl, ap, ◌∙◌, subst, arith}
+use Rattle.std.proofs.Common.{◌≡◌, ⊎_elim, ℕ, suc, ◌+◌, ◌<◌, ◌≤◌, Bool, true, false, cond, not, List, [], ◌∷◌, ◌++◌, map, length, get_or, take, drop, set, is_some, Some, None, Option, Result, unwrap_or, sym, refl, ap, ◌∙◌, subst, arith}
 use Rattle.std.specs.List.{filter}
 use Rattle.std.specs.Option.{option_map}
 use Rattle.std.proofs.Math.ListN.{get_or-map}
-use Rattle.std.proofs.lemmas.List.{length-map, map-set, get_or_default, set-get_or}
+use Rattle.std.proofs.lemmas.List.{length-map, map-set, get_or_default, set-get_or, at_drop_all, take_all, append-nil, length-append, length-take-le, length-drop}
 use Rattle.std.proofs.lemmas.List.Edits.{map_over_more}
 use Rattle.pages.specs.declared.StoreFault.{StoreFault}
 use Rattle.script.specs.declared.Step.{Step}
-use Rattle.serial.specs.Machine.{Meaning, Stand, start, Taken, moved, off_pages, takes}
-use Rattle.serial.specs.Rules.{Row, better, furthest, furthest_of, any_shadow, count}
+use Rattle.pages.specs.declared.WriteEntry.{WriteEntry}
+use Rattle.std.proofs.lemmas.Bool.{cases_Bool, cond-true, cond-false, not-true, not-false, true≢false}
+use Rattle.serial.specs.Machine.{Meaning, Stand, start, has_read_any, Taken, moved, off_pages, takes}
+use Rattle.serial.specs.Rules.{Row, better, furthest, furthest_of, any_shadow, count, kept, spoils, remaining, renewed}
 use Rattle.serial.proofs.Conflicts.{read_any_nil}
 use Rattle.engine.specs.declared.shadow.Shadow.{Shadow}
 use Rattle.engine.specs.View.{stand_of, Took}
+use Rattle.engine.specs.BySlot.{flagged}
 use Rattle.engine.specs.Table.{unread, Lent}
+use Rattle.engine.specs.declared.row.Row.{Row as RowHeld}
+use Rattle.engine.proofs.BySlots.{flag-at, flagged-at, flag_stands, flagged-length}
 
 -- a list, seen through a view of each element
 module _ {X Y : Type 0} (f : X → Y) where
@@ -26,6 +31,22 @@ module _ {X Y : Type 0} (f : X → Y) where
         map-set f ys i y
         ∙ ap (set (map f ys) i) (e ∙ ap g (sym (get_or-map f ys i d)))
         ∙ map_over_more g (map f xs) (map f ys) i x m inv (get_or_default (map f ys) i (f d) x l)
+
+-- a loop over the slots that puts g of what it sees at each place
+module _ {X : Type 0} (g : X → X) (xs ys : List X) (i : ℕ) (inv : ys ≡ map g (take i xs) ++ drop i xs) where
+  pub places_more : (j : ℕ) (d : X) → j ≡ i → i < length xs → set ys j (g (get_or ys j d)) ≡ map g (take (i + 1) xs) ++ drop (i + 1) xs
+  places_more j d is low =
+      let a = ap length inv ∙ length-append (map g (take i xs)) (drop i xs) in
+      let b = length-map (take i xs) g in
+      let c = length-take-le i xs (omega arith) in
+      let e = length-drop i xs in
+      let l : i < length ys = omega (arith, a, b, c, e) in
+      rw is (map_over_more g xs ys i (get_or ys i d) low inv (get_or_default ys i d (get_or ys i d) l))
+
+  pub places_all : length xs ≤ i → ys ≡ map g xs
+  places_all past =
+      inv ∙ ap (λ q. map g q ++ drop i xs) (take_all i xs past) ∙ at_drop_all (λ q. map g xs ++ q) xs i past
+      ∙ append-nil (map g xs)
 
 -- an equal test finds the same
 module _ (p q : Stand → Bool) (same : (s : Stand) → p s ≡ q s) where
@@ -42,10 +63,6 @@ furthest_any t cs = furthest_same (unread []) any_shadow (λ s. ap not (read_any
 
 abbrev pub view : List (Option Shadow) → Row
 view xs = map (option_map stand_of) xs
-
--- a row whose shadow for u is forgotten
-pub set_none : (xs : List (Option Shadow)) (u : ℕ) (o : Option Shadow) → o ≡ None → view (set xs u o) ≡ set (view xs) u None
-set_none xs u o e = map-set (option_map stand_of) xs u o ∙ ap (λ p. set (view xs) u (option_map stand_of p)) e
 
 -- what is there is what stands for it
 pub there_some : {X : Type 0} (o : Option X) (d : X) → is_some o ≡ true → o ≡ Some (unwrap_or o d)
@@ -64,17 +81,70 @@ count_filtered [] = refl
 count_filtered (None ∷ xs) = count_filtered xs
 count_filtered (Some s ∷ xs) = ap suc (count_filtered xs)
 
+module _ {X Y : Type 0} (f : X → Y) where
+  pub some_there : (o : Option X) → is_some (option_map f o) ≡ is_some o
+  some_there None = refl
+  some_there (Some x) = refl
+
+  pub some_mapped : (xs : List (Option X)) (u : ℕ) → is_some (get_or (map (option_map f) xs) u None) ≡ is_some (get_or xs u None)
+  some_mapped xs u = ap is_some (get_or-map (option_map f) xs u None) ∙ some_there (get_or xs u None)
+
+-- what stands past a row's last place
+abbrev pub no_shadow : Shadow
+no_shadow = record {
+  step = 0;
+  registers = [];
+  reads = record { items = []; len = 0 };
+  own = record { items = []; len = 0 };
+}
+
+-- a row has eight places
+pub row-length : (bs : List Bool) (xs : List Shadow) → length bs ≡ length xs → length (view (flagged bs xs)) ≡ length bs
+row-length bs xs l = simp length-map (flagged-length bs xs l)
+
+-- a row that has its leading shadow is spoiled just where the list leaves it none
+module _ (own : List WriteEntry) (v : ℕ) (shadows : Row) (led : is_some (get_or shadows v None) ≡ true) where
+  kept_or_spoiled : (o : Option Stand) → is_some o ≡ true → is_some (kept own o) ≡ not (spoils own o)
+  kept_or_spoiled None h = absurd (true≢false (sym h))
+  kept_or_spoiled (Some s) h =
+      ⊎_elim
+      (λ (b : has_read_any s.reads own ≡ true). rw b refl)
+      (λ (b : has_read_any s.reads own ≡ false). rw b refl)
+      (cases_Bool (has_read_any s.reads own))
+
+  left : is_some (get_or (remaining own shadows) v None) ≡ not (spoils own (get_or shadows v None))
+  left =
+      ap is_some (get_or-map (kept own) shadows v None) ∙ kept_or_spoiled (get_or shadows v None) led
+
+  pub renewed_spoiled : is_some (get_or (remaining own shadows) v None) ≡ false → set (remaining own shadows) v (Some (unwrap_or (furthest_of any_shadow v (remaining own shadows)) start)) ≡ renewed own v shadows
+  renewed_spoiled gone =
+      sym (cond-true (spoils own (get_or shadows v None)) _ _ (not-false (spoils own (get_or shadows v None)) (sym left ∙ gone)))
+
+  pub renewed_kept : is_some (get_or (remaining own shadows) v None) ≡ true → remaining own shadows ≡ renewed own v shadows
+  renewed_kept stays =
+      sym (cond-false (spoils own (get_or shadows v None)) _ _ (not-true (spoils own (get_or shadows v None)) (sym left ∙ stays)))
+
 -- a step of the shadow at a place of the row
-module _ (xs : List (Option Shadow)) (u : ℕ) (s : Shadow) (at : get_or xs u None ≡ Some s) where
-  lent_stand : get_or (view xs) u None ≡ Some (stand_of s)
-  lent_stand = get_or-map (option_map stand_of) xs u None ∙ ap (option_map stand_of) at
+module _ (bs : List Bool) (xs : List Shadow) (u : ℕ) (l : length bs ≡ length xs) (there : is_some (get_or (view (flagged bs xs)) u None) ≡ true) where
+  abbrev Shadows : List Shadow → RowHeld
+  Shadows ys = record { shadows = record { there = bs; things = ys } }
 
-  lent_by : (t : Shadow) (k : Taken) (r : Result (Unit {0}) StoreFault) → Took s k r t → Lent (record { entries = xs }) u k r (record { entries = set xs u (Some t) })
-  lent_by t (moved e) r h = (h.0, map-set (option_map stand_of) xs u (Some t) ∙ ap (λ x. set (view xs) u (Some x)) h.1)
-  lent_by t (off_pages p) r h =
-      (h.0, ap (λ ys. record { entries = ys }) (ap (λ x. set xs u (Some x)) h.1 ∙ ap (set xs u) (sym at) ∙ set-get_or xs u None))
+  stands : get_or bs u false ≡ true
+  stands = flag-at bs xs u l ∙ sym (some_mapped stand_of (flagged bs xs) u) ∙ there
 
-  pub lent_step : (ar : Meaning) (pages : List ℕ) (st : Step) (t : Shadow) (r : Result (Unit {0}) StoreFault) → Took s (takes ar pages st (stand_of s)) r t → Lent (record { entries = xs }) u (takes ar pages st (unwrap_or (get_or (view xs) u None) start)) r (record { entries = set xs u (Some t) })
+  pub lent_stand : get_or (view (flagged bs xs)) u None ≡ Some (stand_of (get_or xs u no_shadow))
+  lent_stand =
+      get_or-map (option_map stand_of) (flagged bs xs) u None
+      ∙ ap (option_map stand_of) (flagged-at bs xs u no_shadow l ∙ ap (λ b. cond b (Some (get_or xs u no_shadow)) None) stands)
+
+  lent_by : (t : Shadow) (k : Taken) (r : Result (Unit {0}) StoreFault) → Took (get_or xs u no_shadow) k r t → Lent (Shadows xs) u k r (Shadows (set xs u t))
+  lent_by t (moved e) r h = (
+    h.0,
+    ap view (flag_stands bs xs u t stands) ∙ map-set (option_map stand_of) (flagged bs xs) u (Some t) ∙ ap (λ x. set (view (flagged bs xs)) u (Some x)) h.1,
+  )
+  lent_by t (off_pages p) r h = (h.0, ap Shadows (ap (set xs u) h.1 ∙ set-get_or xs u no_shadow))
+
+  pub lent_step : (ar : Meaning) (pages : List ℕ) (st : Step) (t : Shadow) (r : Result (Unit {0}) StoreFault) → Took (get_or xs u no_shadow) (takes ar pages st (stand_of (get_or xs u no_shadow))) r t → Lent (Shadows xs) u (takes ar pages st (unwrap_or (get_or (view (flagged bs xs)) u None) start)) r (Shadows (set xs u t))
   lent_step ar pages st t r h =
-      subst (λ o. Lent (record { entries = xs }) u (takes ar pages st (unwrap_or o start)) r (record { entries = set xs u (Some t) })) (sym lent_stand)
-      (lent_by t (takes ar pages st (stand_of s)) r h)
+      subst (λ o. Lent (Shadows xs) u (takes ar pages st (unwrap_or o start)) r (Shadows (set xs u t))) (sym lent_stand)
+      (lent_by t (takes ar pages st (stand_of (get_or xs u no_shadow))) r h)

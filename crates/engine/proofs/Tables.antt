@@ -1,64 +1,63 @@
 -- The rows and scripts of a table, and turns of the loops over them. Assumes nothing.
 use Rattle.std.proofs.Common.{◌≡◌, ℕ, zero, suc, ◌+◌, ◌<◌, ◌≤◌, ⊎_elim, Bool, true, false, List, [], ◌∷◌, ◌++◌, map, length, get_or, take, drop, set, is_some, Some, None, Option, sym, refl, ap, ◌∙◌, add-one, arith}
 use Rattle.std.specs.List.{find, range_with_len}
+use Rattle.std.specs.Option.{option_map}
 use Rattle.std.proofs.Math.ListN.{get_or-map}
-use Rattle.std.proofs.Math.Seq.{map-set_same}
 use Rattle.std.proofs.lemmas.List.{length-map, length-set, map-set, set-get_or, get_or_past, get_or-set_same, get_or-set_other}
-use Rattle.std.proofs.lemmas.Bool.{cond-true, cond-false, cases_lt, cases_eq}
+use Rattle.std.proofs.lemmas.Bool.{cond-true, cond-false, cases_lt, cases_eq, true≢false}
 use Rattle.pages.specs.declared.WriteEntry.{WriteEntry}
 use Rattle.script.specs.declared.Script.{Script}
 use Rattle.script.specs.View.{steps_of}
 use Rattle.serial.specs.Machine.{Steps, Stand, start}
 use Rattle.serial.specs.Rules.{Engine, slots, no_shadows, with_shadow, first_open, shadow, begun, closed, renewed, renew, committed}
 use Rattle.serial.specs.Rules as rules
-use Rattle.serial.specs.Sound.{ClosedBare}
+use Rattle.serial.specs.Sound.{ClosedBare, OpenLed}
 use Rattle.serial.proofs.Table.{nothing_at, none_is}
+use Rattle.engine.specs.BySlot.{by_slot}
+use Rattle.engine.specs.declared.by_slot.BySlot.{BySlot}
 use Rattle.engine.specs.declared.row.Row.{Row}
-use Rattle.engine.specs.declared.table.Held.{Held}
 use Rattle.engine.specs.declared.table.Table.{Table}
-use Rattle.engine.specs.Table.{row_of, script_held, row_held, engine_of, with_rows, without_slot, without_column}
+use Rattle.engine.specs.Table.{row_of, scripts_of, engine_of, with_rows, without_slot, without_column}
 
--- what stands past the last slot
-abbrev pub no_held : Held
-no_held = record { script = None; row = record { entries = [] } }
-
--- another row, or another script, in a slot
-abbrev pub with_row : Held → Row → Held
-with_row h x = record { script = h.script; row = x }
-
-abbrev pub with_script : Held → Option Script → Held
-with_script h x = record { script = x; row = h.row }
+-- what stands past the last row
+abbrev pub no_row : Row
+no_row = record { shadows = record { there = []; things = [] } }
 
 pub same_engine : {a b : ℕ} {s q : List (Option Steps)} {x y : List rules.Row} → a ≡ b → s ≡ q → x ≡ y → ◌≡◌ {A = Engine} (record { allowance = a; scripts = s; shadows = x }) (record { allowance = b; scripts = q; shadows = y })
 same_engine p q r = λ i. record { allowance = p i; scripts = q i; shadows = r i }
 
-pub row-set : (b : Table) (t : ℕ) (x : Row) (y : List (Option Stand)) → row_of x ≡ y → engine_of (record { allowance = b.allowance; slots = set b.slots t (with_row (get_or b.slots t no_held) x) }) ≡ record { allowance = b.allowance; scripts = map script_held b.slots; shadows = set (map row_held b.slots) t y }
-row-set b t x y e =
-    let h = with_row (get_or b.slots t no_held) x in
-    same_engine refl (map-set_same script_held b.slots t h no_held refl) (map-set row_held b.slots t h ∙ ap (set (map row_held b.slots) t) e)
+pub same_row : (b : Table) (t : ℕ) → row_of (get_or b.rows t no_row) ≡ rules.row (engine_of b) t
+same_row b t = sym (get_or-map row_of b.rows t no_row)
 
-pub opened : (b : Table) (t : ℕ) (script : Script) (s : Stand) → s ≡ start → with_shadow (engine_of (record { allowance = b.allowance; slots = set b.slots t (with_script (get_or b.slots t no_held) (Some script)) })) t t (Some s) ≡ begun (engine_of b) t (steps_of script)
-opened b t script s e =
-    let h = with_script (get_or b.slots t no_held) (Some script) in
-    ap (λ q. with_shadow (record { allowance = b.allowance; scripts = q; shadows = map row_held (set b.slots t h) }) t t (Some s)) (map-set script_held b.slots t h)
-    ∙ ap (λ q. with_shadow (record { allowance = b.allowance; scripts = set (map script_held b.slots) t (Some (steps_of script)); shadows = q }) t t (Some s)) (map-set_same row_held b.slots t h no_held refl)
-    ∙ ap (λ x. with_shadow (record { allowance = b.allowance; scripts = set (map script_held b.slots) t (Some (steps_of script)); shadows = map row_held b.slots }) t t (Some x)) e
+pub row-set : (b : Table) (t : ℕ) (x : Row) (y : List (Option Stand)) → row_of x ≡ y → engine_of (record { allowance = b.allowance; scripts = b.scripts; rows = set b.rows t x }) ≡ record { allowance = b.allowance; scripts = scripts_of b.scripts; shadows = set (map row_of b.rows) t y }
+row-set b t x y e = same_engine refl refl (map-set row_of b.rows t x ∙ ap (set (map row_of b.rows) t) e)
 
-pub slot_cleared : (b : Table) (t : ℕ) (h : Held) → script_held h ≡ None → row_held h ≡ no_shadows → engine_of (record { allowance = b.allowance; slots = set b.slots t h }) ≡ without_slot (engine_of b) t
-slot_cleared b t h none bare =
-    same_engine refl (map-set script_held b.slots t h ∙ ap (set (map script_held b.slots) t) none)
-    (map-set row_held b.slots t h ∙ ap (set (map row_held b.slots) t) bare)
+pub opened : (b : Table) (t : ℕ) (script : Script) (q : BySlot Script) → by_slot q ≡ set (by_slot b.scripts) t (Some script) → with_shadow (engine_of (record { allowance = b.allowance; scripts = q; rows = b.rows })) t t (Some start) ≡ begun (engine_of b) t (steps_of script)
+opened b t script q e =
+    ap (λ qs. with_shadow (record { allowance = b.allowance; scripts = qs; shadows = map row_of b.rows }) t t (Some start))
+    (ap (map (option_map steps_of)) e ∙ map-set (option_map steps_of) (by_slot b.scripts) t (Some script))
 
--- a row with no shadow has none for t
-cleared_bare : (t : ℕ) → rules.cleared t no_shadows ≡ no_shadows
-cleared_bare t = ap (set no_shadows t) (sym (nothing_at 8 t)) ∙ set-get_or no_shadows t None
+pub slot_cleared : (b : Table) (t : ℕ) (q : BySlot Script) (x : Row) → by_slot q ≡ set (by_slot b.scripts) t None → row_of x ≡ no_shadows → engine_of (record { allowance = b.allowance; scripts = q; rows = set b.rows t x }) ≡ without_slot (engine_of b) t
+slot_cleared b t q x none bare =
+    same_engine refl (ap (map (option_map steps_of)) none ∙ map-set (option_map steps_of) (by_slot b.scripts) t None)
+    (map-set row_of b.rows t x ∙ ap (set (map row_of b.rows) t) bare)
+
+-- a row with no shadow for t stays as it is
+cleared_same : (r : rules.Row) (t : ℕ) → get_or r t None ≡ None → rules.cleared t r ≡ r
+cleared_same r t h = ap (set r t) (sym h) ∙ set-get_or r t None
 
 cleared-set : (t : ℕ) (rows : List rules.Row) → map (rules.cleared t) (set rows t no_shadows) ≡ rules.without rows t
-cleared-set t rows = map-set (rules.cleared t) rows t no_shadows ∙ ap (set (map (rules.cleared t) rows) t) (cleared_bare t)
+cleared-set t rows = map-set (rules.cleared t) rows t no_shadows ∙ ap (set (map (rules.cleared t) rows) t) (cleared_same no_shadows t (nothing_at 8 t))
 
 -- a slot closes by its own row and then the shadows for it
 pub closed_by : (e : Engine) (t : ℕ) → without_column (without_slot e t) t ≡ closed e t e.shadows
 closed_by e t = same_engine refl refl (cleared-set t e.shadows)
+
+-- nothing stands where nothing was put
+set_gone : {X : Type 0} (xs : List (Option X)) (t : ℕ) → get_or (set xs t None) t None ≡ None
+set_gone [] t = refl
+set_gone (x ∷ xs) zero = refl
+set_gone (x ∷ xs) (suc t) = set_gone xs t
 
 module _ (e : Engine) (t u : ℕ) where
   row_gone : shadow (without_slot e t) t u ≡ None
@@ -77,17 +76,17 @@ bare_without e t bare v u shut =
     ∙ bare v u (sym (ap is_some (get_or-set_other e.scripts t v None None q)) ∙ shut))
     (cases_eq v t)
 
--- a loop that renews each row
-module _ (own : List WriteEntry) where
-  renewed-turn : (v : ℕ) (xs : List rules.Row) (i : ℕ) → i < length xs → set (renew own v (take i xs) ++ drop i xs) i (renewed own (v + i) (get_or (renew own v (take i xs) ++ drop i xs) i [])) ≡ renew own v (take (suc i) xs) ++ drop (suc i) xs
-  renewed-turn v [] i low = absurd (omega arith)
-  renewed-turn v (x ∷ xs) zero low = let e : v + 0 ≡ v = omega arith in ap (λ n. renewed own n x ∷ xs) e
-  renewed-turn v (x ∷ xs) (suc i) low =
-      let e : v + suc i ≡ suc v + i = omega arith in
-      let ys = renew own (suc v) (take i xs) ++ drop i xs in
-      ap (λ n. renewed own v x ∷ set ys i (renewed own n (get_or ys i []))) e
-      ∙ ap (λ rs. renewed own v x ∷ rs) (renewed-turn (suc v) xs i (omega arith))
+pub led_without : (e : Engine) (t : ℕ) → OpenLed e → OpenLed (without_slot e t)
+led_without e t led v opens =
+    ⊎_elim
+    (λ (q : v ≡ t). absurd (true≢false (sym opens ∙ ap (λ w. rules.is_open (without_slot e t) w) q ∙ ap is_some (set_gone e.scripts t))))
+    (λ (q : v ≡ t → ⊥).
+    ap (λ r. is_some (get_or r v None)) (get_or-set_other e.shadows t v no_shadows [] q)
+    ∙ led v (sym (ap is_some (get_or-set_other e.scripts t v None None q)) ∙ opens))
+    (cases_eq v t)
 
+-- what a commit leaves of each row
+module _ (own : List WriteEntry) where
   -- a row with no shadow is its own renewal
   remaining_bare : (r : rules.Row) → ((u : ℕ) → is_some (get_or r u None) ≡ false) → rules.remaining own r ≡ r
   remaining_bare [] h = refl
@@ -110,35 +109,66 @@ module _ (own : List WriteEntry) where
       (ap (map (rules.cleared t)) (renew_set no_shadows (λ w. renewed_bare w no_shadows (λ u. ap is_some (nothing_at 8 u))) 0 e.shadows t)
       ∙ cleared-set t (renew own 0 e.shadows))
 
-  renewed-skip : (v : ℕ) (xs : List rules.Row) (i : ℕ) → i < length xs → renewed own (v + i) (get_or xs i []) ≡ get_or xs i [] → renew own v (take i xs) ++ drop i xs ≡ renew own v (take (suc i) xs) ++ drop (suc i) xs
+-- a loop that renews each row, and takes away the shadow for t
+module _ (own : List WriteEntry) (t : ℕ) where
+  abbrev after : ℕ → rules.Row → rules.Row
+  after v r = rules.cleared t (renewed own v r)
+
+  abbrev all_after : ℕ → List rules.Row → List rules.Row
+  all_after v rows = map (rules.cleared t) (renew own v rows)
+
+  after_bare : (v : ℕ) (r : rules.Row) → ((u : ℕ) → is_some (get_or r u None) ≡ false) → after v r ≡ r
+  after_bare v r h = ap (rules.cleared t) (renewed_bare own v r h) ∙ cleared_same r t (none_is (get_or r t None) (h t))
+
+  renewed-turn : (v : ℕ) (xs : List rules.Row) (i : ℕ) → i < length xs → set (all_after v (take i xs) ++ drop i xs) i (after (v + i) (get_or (all_after v (take i xs) ++ drop i xs) i [])) ≡ all_after v (take (suc i) xs) ++ drop (suc i) xs
+  renewed-turn v [] i low = absurd (omega arith)
+  renewed-turn v (x ∷ xs) zero low = let e : v + 0 ≡ v = omega arith in ap (λ n. after n x ∷ xs) e
+  renewed-turn v (x ∷ xs) (suc i) low =
+      let e : v + suc i ≡ suc v + i = omega arith in
+      let ys = all_after (suc v) (take i xs) ++ drop i xs in
+      ap (λ n. after v x ∷ set ys i (after n (get_or ys i []))) e
+      ∙ ap (λ rs. after v x ∷ rs) (renewed-turn (suc v) xs i (omega arith))
+
+  renewed-skip : (v : ℕ) (xs : List rules.Row) (i : ℕ) → i < length xs → after (v + i) (get_or xs i []) ≡ get_or xs i [] → all_after v (take i xs) ++ drop i xs ≡ all_after v (take (suc i) xs) ++ drop (suc i) xs
   renewed-skip v [] i low h = absurd (omega arith)
-  renewed-skip v (x ∷ xs) zero low h = let e : v + 0 ≡ v = omega arith in ap (λ q. q ∷ xs) (sym h ∙ ap (λ n. renewed own n x) e)
+  renewed-skip v (x ∷ xs) zero low h = let e : v + 0 ≡ v = omega arith in ap (λ q. q ∷ xs) (sym h ∙ ap (λ n. after n x) e)
   renewed-skip v (x ∷ xs) (suc i) low h =
       let e : v + suc i ≡ suc v + i = omega arith in
-      ap (λ rs. renewed own v x ∷ rs) (renewed-skip (suc v) xs i (omega arith) (ap (λ n. renewed own n (get_or xs i [])) (sym e) ∙ h))
+      ap (λ rs. after v x ∷ rs) (renewed-skip (suc v) xs i (omega arith) (ap (λ n. after n (get_or xs i [])) (sym e) ∙ h))
 
-  module _ (xs : List Held) (i : ℕ) where
+  module _ (xs : List Row) (i : ℕ) where
     -- the first i rows are renewed
-    abbrev pub Renewed : List Held → Type 0
-    Renewed ys = map row_held ys ≡ renew own 0 (take i (map row_held xs)) ++ drop i (map row_held xs)
+    abbrev pub Renewed : List Row → Type 0
+    Renewed ys = map row_of ys ≡ all_after 0 (take i (map row_of xs)) ++ drop i (map row_of xs)
 
-  pub renewed_more : (xs ys : List Held) (i : ℕ) (y : Held) → i < length xs → row_held y ≡ renewed own i (row_held (get_or ys i no_held)) → Renewed xs i ys → Renewed xs (i + 1) (set ys i y)
+  row-here : (v : ℕ) (xs : List rules.Row) (i : ℕ) → i < length xs → get_or (all_after v (take i xs) ++ drop i xs) i [] ≡ get_or xs i []
+  row-here v [] i low = absurd (omega arith)
+  row-here v (x ∷ xs) zero low = refl
+  row-here v (x ∷ xs) (suc i) low = row-here (suc v) xs i (omega arith)
+
+  -- a row that is not renewed yet is as it was
+  pub row-waits : (xs ys : List Row) (i : ℕ) → i < length xs → Renewed xs i ys → row_of (get_or ys i no_row) ≡ get_or (map row_of xs) i []
+  row-waits xs ys i low inv =
+      let l : i < length (map row_of xs) = simp length-map low in
+      sym (get_or-map row_of ys i no_row) ∙ ap (λ rs. get_or rs i []) inv ∙ row-here 0 (map row_of xs) i l
+
+  pub renewed_more : (xs ys : List Row) (i : ℕ) (y : Row) → i < length xs → row_of y ≡ after i (row_of (get_or ys i no_row)) → Renewed xs i ys → Renewed xs (i + 1) (set ys i y)
   renewed_more xs ys i y low e inv =
-      let l : i < length (map row_held xs) = simp length-map low in
+      let l : i < length (map row_of xs) = simp length-map low in
       let z : 0 + i ≡ i = omega arith in
-      map-set row_held ys i y
-      ∙ ap (set (map row_held ys) i) (e ∙ ap (renewed own i) (sym (get_or-map row_held ys i no_held)))
-      ∙ ap (λ rs. set rs i (renewed own i (get_or rs i []))) inv
-      ∙ ap (λ n. set (renew own 0 (take i (map row_held xs)) ++ drop i (map row_held xs)) i (renewed own n (get_or (renew own 0 (take i (map row_held xs)) ++ drop i (map row_held xs)) i []))) (sym z)
-      ∙ renewed-turn 0 (map row_held xs) i l
-      ∙ ap (λ n. renew own 0 (take n (map row_held xs)) ++ drop n (map row_held xs)) (sym (add-one i))
+      map-set row_of ys i y
+      ∙ ap (set (map row_of ys) i) (e ∙ ap (after i) (sym (get_or-map row_of ys i no_row)))
+      ∙ ap (λ rs. set rs i (after i (get_or rs i []))) inv
+      ∙ ap (λ n. set (all_after 0 (take i (map row_of xs)) ++ drop i (map row_of xs)) i (after n (get_or (all_after 0 (take i (map row_of xs)) ++ drop i (map row_of xs)) i []))) (sym z)
+      ∙ renewed-turn 0 (map row_of xs) i l
+      ∙ ap (λ n. all_after 0 (take n (map row_of xs)) ++ drop n (map row_of xs)) (sym (add-one i))
 
   -- a row that has no shadow is left as it is
-  pub renewed_same : (xs ys : List Held) (i : ℕ) → i < length xs → ((u : ℕ) → is_some (get_or (get_or (map row_held xs) i []) u None) ≡ false) → Renewed xs i ys → Renewed xs (i + 1) ys
+  pub renewed_same : (xs ys : List Row) (i : ℕ) → i < length xs → ((u : ℕ) → is_some (get_or (get_or (map row_of xs) i []) u None) ≡ false) → Renewed xs i ys → Renewed xs (i + 1) ys
   renewed_same xs ys i low bare inv =
-      let l : i < length (map row_held xs) = simp length-map low in
-      inv ∙ renewed-skip 0 (map row_held xs) i l (renewed_bare (0 + i) (get_or (map row_held xs) i []) bare)
-      ∙ ap (λ n. renew own 0 (take n (map row_held xs)) ++ drop n (map row_held xs)) (sym (add-one i))
+      let l : i < length (map row_of xs) = simp length-map low in
+      inv ∙ renewed-skip 0 (map row_of xs) i l (after_bare (0 + i) (get_or (map row_of xs) i []) bare)
+      ∙ ap (λ n. all_after 0 (take n (map row_of xs)) ++ drop n (map row_of xs)) (sym (add-one i))
 
 -- the lowest open slot, found among the slots
 from_here : (n m : ℕ) (xs : List (Option Steps)) (open_at : ℕ → Bool) → length xs ≡ m → ((k : ℕ) → k < m → open_at (n + k) ≡ is_some (get_or xs k None)) → find open_at (range_with_len n m) ≡ first_open n xs

@@ -1,6 +1,6 @@
 -- Steps that a shadow in the table takes. Assumes nothing.
-use Rattle.std.proofs.Common.{◌≡◌, ℕ, Bool, true, false, cond, ltb, List, [], map, length, get_or, set, is_some, Some, None, Ok, Err, Option, Result, unwrap_or, sym, refl, ap, ◌∙◌, subst, arith}
-use Rattle.std.proofs.Math.ListN.{get_or-map}
+use Rattle.std.specs.Option.{option_or}
+use Rattle.std.proofs.Common.{◌≡◌, ℕ, Bool, true, false, cond, ltb, List, length, get_or, set, is_some, Some, None, Ok, Err, Option, Result, unwrap_or, sym, refl, ap, ◌∙◌, subst, arith}
 use Rattle.std.proofs.lemmas.List.{set-get_or}
 use Rattle.pages.specs.Pages.{fault_at}
 use Rattle.pages.specs.declared.StoreFault.{StoreFault}
@@ -13,32 +13,26 @@ use Rattle.serial.specs.Rules.{Engine, shadow, with_shadow, before_step, after_s
 use Rattle.engine.specs.declared.row.Row.{Row}
 use Rattle.engine.specs.declared.table.Table.{Table}
 use Rattle.engine.specs.View.{Room}
-use Rattle.engine.specs.Table.{row_of, row_held, engine_of, Lent, page_needed, page_needed_by, checked, lead_takes, Stepped}
-use Rattle.engine.proofs.Tables.{no_held, with_row, row-set}
+use Rattle.engine.specs.Table.{row_of, engine_of, Lent, page_needed, checked, lead_takes, Stepped}
+use Rattle.engine.proofs.Tables.{no_row, same_row, row-set}
 use Rattle.engine.proofs.Accounts.{before_keeps}
 
 -- a row's step is the table's
 module _ (b : Table) (t u : ℕ) where
   abbrev pub with_step : Row → Table
-  with_step x = record { allowance = b.allowance; slots = set b.slots t (with_row (get_or b.slots t no_held) x) }
+  with_step x = record { allowance = b.allowance; scripts = b.scripts; rows = set b.rows t x }
 
-  same_row : row_of (get_or b.slots t no_held).row ≡ get_or (map row_held b.slots) t []
-  same_row = sym (get_or-map row_held b.slots t no_held)
+  pub row-there : is_some (shadow (engine_of b) t u) ≡ true → is_some (get_or (row_of (get_or b.rows t no_row)) u None) ≡ true
+  row-there h = ap (λ r. is_some (get_or r u None)) (same_row b t) ∙ h
 
-  pub row-there : is_some (shadow (engine_of b) t u) ≡ true → is_some (get_or (row_of (get_or b.slots t no_held).row) u None) ≡ true
-  row-there h = ap (λ r. is_some (get_or r u None)) same_row ∙ h
+  row_stepped : (k : Taken) (r : Result (Unit {0}) StoreFault) (x : Row) → Lent (get_or b.rows t no_row) u k r x → Stepped b (λ e. with_shadow (engine_of b) t u (Some e)) k r (with_step x)
+  row_stepped (moved e) r x h = (h.0, row-set b t x _ (h.1 ∙ ap (λ q. set q u (Some e)) (same_row b t)))
+  row_stepped (off_pages p) r x h = (h.0, ap with_step h.1 ∙ ap (λ q. record { allowance = b.allowance; scripts = b.scripts; rows = q }) (set-get_or b.rows t no_row))
 
-  row_stepped : (k : Taken) (r : Result (Unit {0}) StoreFault) (x : Row) → Lent (get_or b.slots t no_held).row u k r x → Stepped b (λ e. with_shadow (engine_of b) t u (Some e)) k r (with_step x)
-  row_stepped (moved e) r x h = (h.0, row-set b t x _ (h.1 ∙ ap (λ q. set q u (Some e)) same_row))
-  row_stepped (off_pages p) r x h = (
-    h.0,
-    ap (λ q. record { allowance = b.allowance; slots = q }) (ap (λ x. set b.slots t (with_row (get_or b.slots t no_held) x)) h.1 ∙ set-get_or b.slots t no_held),
-  )
-
-  pub row_steps : (ar : Meaning) (pages : List ℕ) (st : Step) (r : Result (Unit {0}) StoreFault) (x : Row) → Lent (get_or b.slots t no_held).row u (takes ar pages st (unwrap_or (get_or (row_of (get_or b.slots t no_held).row) u None) start)) r x → Stepped b (λ e. with_shadow (engine_of b) t u (Some e)) (takes ar pages st (unwrap_or (shadow (engine_of b) t u) start)) r (with_step x)
+  pub row_steps : (ar : Meaning) (pages : List ℕ) (st : Step) (r : Result (Unit {0}) StoreFault) (x : Row) → Lent (get_or b.rows t no_row) u (takes ar pages st (unwrap_or (get_or (row_of (get_or b.rows t no_row)) u None) start)) r x → Stepped b (λ e. with_shadow (engine_of b) t u (Some e)) (takes ar pages st (unwrap_or (shadow (engine_of b) t u) start)) r (with_step x)
   row_steps ar pages st r x h =
       row_stepped (takes ar pages st (unwrap_or (shadow (engine_of b) t u) start)) r x
-      (subst (λ q. Lent (get_or b.slots t no_held).row u (takes ar pages st (unwrap_or (get_or q u None) start)) r x) same_row h)
+      (subst (λ q. Lent (get_or b.rows t no_row) u (takes ar pages st (unwrap_or (get_or q u None) start)) r x) (same_row b t) h)
 
 -- the check of a step's page tells how the step ends
 abbrev Tells : Taken → Result (Unit {0}) StoreFault → Type 0
@@ -50,7 +44,7 @@ module _ (ar : Meaning) (pages : List ℕ) (s : Stand) where
   tells_cond true e p = refl
   tells_cond false e p = refl
 
-  tells_read : (a : Register) (p : ℕ) (o : Option ℕ) → Tells (take_read pages s a p o) (checked (length pages) (page_needed_by (unless_own p o) None))
+  tells_read : (a : Register) (p : ℕ) (o : Option ℕ) → Tells (take_read pages s a p o) (checked (length pages) (option_or (unless_own p o) None))
   tells_read a p (Some w) = refl
   tells_read a p None = tells_cond (ltb p (length pages)) _ p
 

@@ -1,9 +1,10 @@
 -- The table of shadows as the rules have it. Assumes nothing.
-use Rattle.std.specs.Prelude.{◌≡◌, ℕ, Bool, true, cond, not, List, map, is_some, Some, None, Ok, Err, Option, Result, ◌==◌, nat_lt, slice_index_or, slice_set}
-use Rattle.std.specs.Option.{option_map}
+use Rattle.std.specs.Prelude.{◌≡◌, ℕ, Bool, true, false, cond, not, List, map, is_some, Some, None, Ok, Err, Option, Result, ◌==◌, nat_lt, slice_index_or, slice_set}
+use Rattle.std.specs.Option.{option_map, option_or}
 use Rattle.pages.specs.Pages.{fault_at}
 use Rattle.pages.specs.declared.StoreFault.{StoreFault}
 use Rattle.pages.specs.declared.WriteEntry.{WriteEntry}
+use Rattle.script.specs.declared.Script.{Script}
 use Rattle.script.specs.declared.Step.{Step}
 use Rattle.script.specs.View.{steps_of}
 use Rattle.serial.specs.declared.fault.StepFault.{StepFault}
@@ -11,24 +12,22 @@ use Rattle.serial.specs.Faults.{step_fault}
 use Rattle.serial.specs.Machine.{Steps, Stand, Taken, moved, off_pages, store_read, write_of, has_read_any}
 use Rattle.serial.specs.Rules.{Engine, no_shadows, with_shadow, before_step, after_step, cleared}
 use Rattle.engine.specs.View.{stand_of}
+use Rattle.engine.specs.BySlot.{by_slot}
+use Rattle.engine.specs.declared.by_slot.BySlot.{BySlot}
 use Rattle.engine.specs.declared.row.Row.{Row}
-use Rattle.engine.specs.declared.table.Held.{Held}
 use Rattle.engine.specs.declared.table.Table.{Table}
 
 -- the shadows of one slot
 abbrev pub row_of : Row → List (Option Stand)
-row_of r = map (option_map stand_of) r.entries
+row_of r = map (option_map stand_of) (by_slot r.shadows)
 
--- the script of an open slot, and a slot's shadows
-abbrev pub script_held : Held → Option Steps
-script_held h = option_map steps_of h.script
-
-abbrev pub row_held : Held → List (Option Stand)
-row_held h = row_of h.row
+-- the scripts of the open slots
+abbrev pub scripts_of : BySlot Script → List (Option Steps)
+scripts_of s = map (option_map steps_of) (by_slot s)
 
 -- the table, with the script of each open slot
 abbrev pub engine_of : Table → Engine
-engine_of t = record { allowance = t.allowance; scripts = map script_held t.slots; shadows = map row_held t.slots }
+engine_of t = record { allowance = t.allowance; scripts = scripts_of t.scripts; shadows = map row_of t.rows }
 
 abbrev pub with_allowance : Engine → ℕ → Engine
 with_allowance e k = record { allowance = k; scripts = e.scripts; shadows = e.shadows }
@@ -59,6 +58,11 @@ IsThere shadows (Some u) = is_some (slice_index_or shadows u None) ≡ true
 abbrev pub unread : List WriteEntry → Stand → Bool
 unread list s = not (has_read_any s.reads list)
 
+-- whether there is a shadow, and it passes
+abbrev pub passes : (Stand → Bool) → Option Stand → Bool
+passes test None = false
+passes test (Some s) = test s
+
 -- a step of the shadow for u took a row to t and answered r: where it moved the shadow, it stands there; else the row is
 -- as it was
 abbrev pub Lent : Row → ℕ → Taken → Result (Unit {0}) StoreFault → Row → Type 0
@@ -66,12 +70,8 @@ Lent s u (moved e) r t = (r ≡ Ok tt) × (row_of t ≡ slice_set (row_of s) u (
 Lent s u (off_pages p) r t = (r ≡ Err (fault_at p)) × (t ≡ s)
 
 -- the page that the store must have for the next step
-abbrev pub page_needed_by : Option ℕ → Option ℕ → Option ℕ
-page_needed_by (Some p) w = Some p
-page_needed_by None w = w
-
 abbrev pub page_needed : Option Step → Stand → Option ℕ
-page_needed st s = page_needed_by (store_read st s) (write_of st s)
+page_needed st s = option_or (store_read st s) (write_of st s)
 
 -- whether a store of n pages has it
 abbrev pub checked : ℕ → Option ℕ → Result (Unit {0}) StoreFault

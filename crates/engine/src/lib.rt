@@ -2,6 +2,7 @@
 #![tactic(auto)]
 
 mod alone;
+mod by_slot;
 mod engine;
 mod machine;
 mod row;

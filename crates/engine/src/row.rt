@@ -4,45 +4,19 @@ ghost use Rattle.std.specs.Option.{unwrap_or, option_map};
 ghost use Rattle.serial.specs.Machine.{start as started, takes};
 ghost use Rattle.serial.specs.Rules.{no_shadows, place_of, better as better_of, furthest_of, any_shadow, count as counted, kept, remaining, spoils, renewed};
 ghost use Rattle.engine.specs.View.{stand_of, seen, Room};
-ghost use Rattle.engine.specs.Table.{row_of, unread, placed, IsThere, Lent};
+ghost use Rattle.engine.specs.Table.{row_of, unread, passes, placed, IsThere, Lent};
 
+use crate::by_slot::BySlot;
 use crate::machine::Machine;
 use crate::shadow::Shadow;
-use crate::slot::{SLOTS, Slot};
+use crate::slot::Slot;
 use arithmetic::Arithmetic;
 use pages::{Reader, StoreFault, WriteEntry};
 use script::Step;
 
 #[derive(Clone, Copy)]
 pub struct Row {
-    entries: [Option<Shadow>; SLOTS],
-}
-
-// Leaves no shadow. Most entries have none, and `None` is written over all the room of one.
-fn vacate(entry: &mut Option<Shadow>)
-    ensures { entry.new ≡ None }
-{
-    if entry.is_some() {
-        *entry = None;
-    }
-}
-
-// Whether there is a shadow that has read a page of the list.
-fn is_spoiled(entry: &Option<Shadow>, own: &[WriteEntry]) -> bool
-    ensures { result ≡ spoils own.now (option_map stand_of entry.now) }
-{
-    entry
-        .as_ref()
-        .is_some_and(|shadow| shadow.has_read_any(own))
-}
-
-// Drops a shadow that has read a page of the list.
-fn drop_reader(entry: &mut Option<Shadow>, own: &[WriteEntry])
-    ensures { option_map stand_of entry.new ≡ kept own.now (option_map stand_of entry.old) }
-{
-    if is_spoiled(entry, own) {
-        vacate(entry);
-    }
+    shadows: BySlot<Shadow>,
 }
 
 impl Row {
@@ -51,14 +25,14 @@ impl Row {
         ensures { row_of result ≡ no_shadows }
     {
         Row {
-            entries: [None; SLOTS],
+            shadows: BySlot::new(Shadow::start()),
         }
     }
 
     pub(crate) fn get(&self, u: Slot) -> Option<&Shadow>
         ensures { option_map seen result ≡ slice_index_or (row_of self.now) u None }
     {
-        self.entries[u.index()].as_ref()
+        self.shadows.get(u)
     }
 
     // Where the shadow for u stands.
@@ -74,9 +48,8 @@ impl Row {
         ensures { row_of self.new ≡ slice_set (row_of self.old) u (Some (unwrap_or (placed (row_of self.old) from) started)) }
     {
         match from {
-            // Copied from place to place: by way of a value a shadow would be copied three times.
-            Some(i) => self.entries[u.index()] = self.entries[i.index()],
-            None => self.entries[u.index()] = Some(Shadow::start()),
+            Some(i) => self.shadows.copy(u, i),
+            None => self.shadows.put(u, Shadow::start()),
         }
     }
 
@@ -84,48 +57,40 @@ impl Row {
     pub(crate) fn take_away(&mut self, u: Slot)
         ensures { row_of self.new ≡ slice_set (row_of self.old) u None }
     {
-        vacate(&mut self.entries[u.index()]);
+        self.shadows.take_away(u);
     }
 
     // Takes every shadow away.
     pub(crate) fn clear(&mut self)
         ensures { row_of self.new ≡ no_shadows }
     {
-        // As a slice, whose length a proof keeps.
-        for entry in &mut self.entries[..] {
-            vacate(entry);
-        }
+        self.shadows.clear();
     }
 
     // How many shadows there are.
     pub(crate) fn count(&self) -> usize
         ensures { result ≡ counted (row_of self.now) }
     {
-        self.entries.iter().filter(|entry| entry.is_some()).count()
+        self.shadows.count()
     }
 
-    // The further of two places: the first, unless the shadow at the other is ahead.
-    fn further(&self, best: Option<Slot>, other: Slot) -> Slot
-        requires there { IsThere (row_of self.now) best }
-        requires other { is_some (slice_index_or (row_of self.now) other None) ≡ true }
-        ensures rule { slice_index_or (row_of self.now) result None ≡ better_of any_shadow (placed (row_of self.now) best) (slice_index_or (row_of self.now) other None) }
-        ensures there { is_some (slice_index_or (row_of self.now) result None) ≡ true }
+    // Whether there is a shadow for u that has read no page of the list.
+    fn is_clean(&self, u: Slot, list: &[WriteEntry]) -> bool
+        ensures { result ≡ passes (unread list.now) (slice_index_or (row_of self.now) u None) }
     {
-        match best {
-            Some(known) if self.step_at(other) <= self.step_at(known) => known,
-            _ => other,
-        }
+        self.get(u).is_some_and(|shadow| !shadow.has_read_any(list))
     }
 
-    // The better of two places: the first, unless the shadow at the other has read no page of the list and is ahead.
+    // The better of two places: the first, unless the shadow at the other is ahead and has read no page of the list. Steps are
+    // looked at first: most shadows are behind.
     fn better(&self, best: Option<Slot>, other: Slot, list: &[WriteEntry]) -> Option<Slot>
         requires there { IsThere (row_of self.now) best }
         ensures rule { placed (row_of self.now) result ≡ better_of (unread list.now) (placed (row_of self.now) best) (slice_index_or (row_of self.now) other None) }
         ensures there { IsThere (row_of self.now) result }
     {
-        match self.get(other) {
-            Some(shadow) if !shadow.has_read_any(list) => Some(self.further(best, other)),
-            // Tried as `filter` and `or`, and by `is_some_and`: of a test that holds a lent shadow the check learns nothing.
+        match best {
+            Some(known) if self.step_at(other) <= self.step_at(known) => Some(known),
+            _ if self.is_clean(other, list) => Some(other),
             _ => best,
         }
     }
@@ -143,13 +108,28 @@ impl Row {
         best
     }
 
+    // Whether there is a shadow for u that has read a page of the list.
+    fn is_spoiled(&self, u: Slot, own: &[WriteEntry]) -> bool
+        ensures { result ≡ spoils own.now (slice_index_or (row_of self.now) u None) }
+    {
+        self.get(u).is_some_and(|shadow| shadow.has_read_any(own))
+    }
+
+    // Drops the shadow for u where it has read a page of the list.
+    fn drop_reader(&mut self, u: Slot, own: &[WriteEntry])
+        ensures { row_of self.new ≡ slice_set (row_of self.old) u (kept own.now (slice_index_or (row_of self.old) u None)) }
+    {
+        if self.is_spoiled(u, own) {
+            self.take_away(u);
+        }
+    }
+
     // Drops each shadow that has read a page of the list.
-    pub(crate) fn drop_readers(&mut self, own: &[WriteEntry])
+    fn drop_readers(&mut self, own: &[WriteEntry])
         ensures { row_of self.new ≡ remaining own.now (row_of self.old) }
     {
-        // As a slice, whose length a proof keeps.
-        for entry in &mut self.entries[..] {
-            drop_reader(entry, own);
+        for u in Slot::all() {
+            self.drop_reader(u, own);
         }
     }
 
@@ -163,11 +143,11 @@ impl Row {
 
     // Slot v's row after a commit of the list: without those that have read a page of it, and with a leading shadow still.
     pub(crate) fn renew(&mut self, v: Slot, own: &[WriteEntry])
+        requires led { is_some (slice_index_or (row_of self.old) v None) ≡ true }
         ensures { row_of self.new ≡ renewed own.now v (row_of self.old) }
     {
-        let spoiled = is_spoiled(&self.entries[v.index()], own);
         self.drop_readers(own);
-        if spoiled {
+        if self.get(v).is_none() {
             self.lead_again(v);
         }
     }
@@ -183,9 +163,6 @@ impl Row {
         requires room { Room (unwrap_or (slice_index_or (row_of self.old) u None) started) }
         ensures { Lent self.old u (takes (A.Arithmetic.meaning machine.now.arithmetic.now) (R.Reader.pages machine.now.reader.now) step.now (unwrap_or (slice_index_or (row_of self.old) u None) started)) result self.new }
     {
-        self.entries[u.index()]
-            .as_mut()
-            .unwrap()
-            .take_step(step, machine)
+        self.shadows.things[u.index()].take_step(step, machine)
     }
 }

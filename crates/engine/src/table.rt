@@ -4,53 +4,31 @@ ghost use Rattle.std.specs.Option.{option_map, unwrap_or};
 ghost use Rattle.script.specs.View.{steps_of};
 ghost use Rattle.serial.specs.Machine.{start as started};
 ghost use Rattle.serial.specs.Rules.{slots, no_shadows, fresh_engine, script_of, is_open, row as row_at, shadow as shadow_at, with_shadow, begun, closed, renew, committed};
-ghost use Rattle.serial.specs.Sound.{ClosedBare};
+ghost use Rattle.serial.specs.Sound.{ClosedBare, OpenLed};
 ghost use Rattle.engine.specs.View.{stand_of, seen, steps_seen};
-ghost use Rattle.engine.specs.Table.{row_of, engine_of, with_allowance, script_held, row_held, with_rows, without_slot, without_column, placed, IsThere};
+ghost use Rattle.engine.specs.Table.{row_of, engine_of, with_allowance, with_rows, without_slot, without_column, placed, IsThere};
 
+use crate::by_slot::BySlot;
 use crate::row::Row;
 use crate::shadow::Shadow;
 use crate::slot::{SLOTS, Slot};
 use pages::WriteEntry;
-use script::Script;
+use script::{Script, decode};
 
 mod accounting;
 mod turn;
 
-// What a slot holds: the script of its transaction, where it is open, and its row of shadows. The rules put shadows into any
-// row, so a row is there for a closed slot too.
-#[derive(Clone, Copy)]
-pub struct Held {
-    script: Option<Script>,
-    row: Row,
-}
-
+// The rules put shadows into any row, so a row is there for a closed slot too.
 #[derive(Clone, Copy)]
 pub struct Table {
     allowance: usize,
-    slots: [Held; SLOTS],
+    scripts: BySlot<Script>,
+    rows: [Row; SLOTS],
 }
 
-impl Held {
-    // Nothing, as a closed slot.
-    fn nothing() -> Held
-        ensures script { script_held result ≡ None }
-        ensures row { row_held result ≡ no_shadows }
-    {
-        Held {
-            script: None,
-            row: Row::new(),
-        }
-    }
-
-    // Leaves nothing, where it stands: a value of nothing would be made and copied.
-    fn close(&mut self)
-        ensures script { script_held self.new ≡ None }
-        ensures row { row_held self.new ≡ no_shadows }
-    {
-        self.script = None;
-        self.row.clear();
-    }
+// A script for the room of closed slots, where none is ever run: one step, which sets register 0 to 0.
+fn unused_script() -> Script {
+    decode(&[1, 0x40, 0, 0, 0, 0]).unwrap()
 }
 
 impl Table {
@@ -60,7 +38,8 @@ impl Table {
     {
         Table {
             allowance: 2,
-            slots: [Held::nothing(); SLOTS],
+            scripts: BySlot::new(unused_script()),
+            rows: [Row::new(); SLOTS],
         }
     }
 
@@ -79,13 +58,13 @@ impl Table {
     pub(crate) fn script(&self, t: Slot) -> Option<&Script>
         ensures { option_map steps_seen result ≡ script_of (engine_of self.now) t }
     {
-        self.slots[t.index()].script.as_ref()
+        self.scripts.get(t)
     }
 
     pub(crate) fn is_open(&self, t: Slot) -> bool
         ensures { result ≡ is_open (engine_of self.now) t }
     {
-        self.script(t).is_some()
+        self.scripts.has(t)
     }
 
     // The lowest open slot.
@@ -98,7 +77,7 @@ impl Table {
     fn row(&self, t: Slot) -> &Row
         ensures { row_of result.now ≡ row_at (engine_of self.now) t }
     {
-        &self.slots[t.index()].row
+        &self.rows[t.index()]
     }
 
     // Slot t's shadow for u, or its leading shadow where that is t.
@@ -113,14 +92,14 @@ impl Table {
         requires there { IsThere (row_at (engine_of self.old) t) from }
         ensures { engine_of self.new ≡ with_shadow (engine_of self.old) t u (Some (unwrap_or (placed (row_at (engine_of self.old) t) from) started)) }
     {
-        self.slots[t.index()].row.fork(u, from);
+        self.rows[t.index()].fork(u, from);
     }
 
     // Opens slot t with a leading shadow at step 0.
     pub(crate) fn open_slot(&mut self, t: Slot, script: Script)
         ensures { engine_of self.new ≡ begun (engine_of self.old) t (steps_of script) }
     {
-        self.slots[t.index()].script = Some(script);
+        self.scripts.put(t, script);
         self.fork(t, t, None);
     }
 
@@ -129,8 +108,8 @@ impl Table {
         ensures { engine_of self.new ≡ without_column (engine_of self.old) t }
     {
         // As a slice, whose length a proof keeps.
-        for held in &mut self.slots[..] {
-            held.row.take_away(t);
+        for row in &mut self.rows[..] {
+            row.take_away(t);
         }
     }
 
@@ -138,7 +117,8 @@ impl Table {
     fn clear_slot(&mut self, t: Slot)
         ensures { engine_of self.new ≡ without_slot (engine_of self.old) t }
     {
-        self.slots[t.index()].close();
+        self.scripts.take_away(t);
+        self.rows[t.index()].clear();
     }
 
     // Closes slot t: its row goes, and every shadow for it.
@@ -149,14 +129,17 @@ impl Table {
         self.clear_column(t);
     }
 
-    // Every row after a commit of the list. A closed slot has no shadow, and its row is not looked at.
-    fn renew_all(&mut self, own: &[WriteEntry])
+    // Every row after a commit of slot t's list. A closed slot has no shadow, and its row is not looked at.
+    fn renew_all(&mut self, t: Slot, own: &[WriteEntry])
         requires bare { ClosedBare (engine_of self.old) }
-        ensures { engine_of self.new ≡ with_rows (engine_of self.old) (renew own.now 0 (engine_of self.old).shadows) }
+        requires led { OpenLed (engine_of self.old) }
+        ensures { engine_of self.new ≡ without_column (with_rows (engine_of self.old) (renew own.now 0 (engine_of self.old).shadows)) t }
     {
         for v in Slot::all() {
             if self.is_open(v) {
-                self.slots[v.index()].row.renew(v, own);
+                let row = &mut self.rows[v.index()];
+                row.renew(v, own);
+                row.take_away(t);
             }
         }
     }
@@ -164,11 +147,11 @@ impl Table {
     // Slot t's list is put: others that read from it go on without what they read, and t closes.
     pub(crate) fn commit_slot(&mut self, t: Slot, own: &[WriteEntry])
         requires bare { ClosedBare (engine_of self.old) }
+        requires led { OpenLed (engine_of self.old) }
         ensures { engine_of self.new ≡ committed (engine_of self.old) t own.now }
     {
-        // t's own row first: it need not be renewed. The shadows for t last: they take over.
+        // t's own row first: it need not be renewed.
         self.clear_slot(t);
-        self.renew_all(own);
-        self.clear_column(t);
+        self.renew_all(t, own);
     }
 }

@@ -8,7 +8,7 @@ use Rattle.serial.specs.Machine.{Meaning}
 
 -- how much memory a host makes room for an engine in
 abbrev pub engine_bytes : ℕ
-engine_bytes = 28808
+engine_bytes = 20112
 
 -- the pages of a host's words, taken as a log or as a flat store
 abbrev pub pages_in : Bool → List ℕ → List ℕ

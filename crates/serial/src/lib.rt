@@ -11,10 +11,10 @@ mod fault;
 
 pub use fault::{Accepted, Answer, CallFault, Standing, StepFault, Turned};
 
-// A recorded store read: an entry of a read set.
+// A recorded store read: an entry of a read set. A fork copies sixteen, so a step takes no more room than a page.
 #[derive(Clone, Copy, PartialEq, Eq, Debug)]
 pub struct ReadEntry {
-    pub step: usize,
+    pub step: u32,
     pub page: u32,
 }
 

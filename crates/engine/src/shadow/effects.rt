@@ -26,12 +26,12 @@ impl Shadow {
 
     // Records a store read of the step that is next.
     fn record_read(&mut self, page: u32)
-        requires { length (stand_of self.old).reads < 16 }
+        requires { Room (stand_of self.old) }
         ensures { stand_of self.new ≡ recorded (stand_of self.old) page }
     {
         self.reads
             .push(ReadEntry {
-                step: self.step,
+                step: self.step as u32,
                 page,
             })
             .unwrap();

@@ -53,6 +53,7 @@ impl Table {
     }
 
     // Slot t's shadow for u goes on from t's furthest that is clean for u, where there is room for it.
+    #[inline(never)]
     pub(crate) fn account(&mut self, t: Slot, u: Slot)
         ensures { engine_of self.new ≡ accounted (engine_of self.old) t u }
     {
@@ -66,7 +67,7 @@ impl Table {
     fn read_conflict(&self, t: Slot, page: u32, u: Slot) -> bool
         ensures { result ≡ read_conflict (engine_of self.now) t page u }
     {
-        u != t && self.is_open(u) && self.shadow(t, u).is_none() && self.lead_has_written(u, page)
+        self.is_open(u) && self.shadow(t, u).is_none() && u != t && self.lead_has_written(u, page)
     }
 
     fn account_read(&mut self, t: Slot, page: u32, u: Slot)
@@ -91,8 +92,8 @@ impl Table {
     fn write_conflict(&self, t: Slot, page: u32, v: Slot) -> bool
         ensures { result ≡ write_conflict (engine_of self.now) t page v }
     {
-        v != t
-            && self.is_open(v)
+        self.is_open(v)
+            && v != t
             && self.shadow_has_read(v, v, page)
             && (self.shadow(v, t).is_none() || self.shadow_has_read(v, t, page))
     }

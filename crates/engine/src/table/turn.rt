@@ -17,20 +17,11 @@ use pages::{Reader, StoreFault};
 use script::{Script, Step};
 use serial::{CallFault, Standing, StepFault};
 
-// The page that the store must have for a step.
-fn page_needed(shadow: &Shadow, step: Step) -> Option<u32>
-    ensures { result ≡ page_needed (Some step) (stand_of shadow.now) }
+// Whether the reader has the page that a step is for, where it is for one.
+fn check_page<R: Reader>(page: Option<u32>, reader: &R) -> Result<(), StoreFault>
+    ensures { result ≡ checked (length (R.Reader.pages reader.now)) page }
 {
-    shadow
-        .store_read(Some(step))
-        .or(shadow.write_of(Some(step)))
-}
-
-// Whether the reader has the page that a step is for.
-fn check_step<R: Reader>(shadow: &Shadow, step: Step, reader: &R) -> Result<(), StoreFault>
-    ensures { result ≡ checked (length (R.Reader.pages reader.now)) (page_needed (Some step) (stand_of shadow.now)) }
-{
-    match page_needed(shadow, step) {
+    match page {
         Some(page) if page >= reader.size() => Err(StoreFault { page }),
         _ => Ok(()),
     }
@@ -118,7 +109,7 @@ impl Table {
         requires room { Room (stand_at (engine_of self.old) t u) }
         ensures { Stepped self.old (λ e. with_shadow (engine_of self.old) t u (Some e)) (takes (A.Arithmetic.meaning machine.now.arithmetic.now) (R.Reader.pages machine.now.reader.now) step.now (stand_at (engine_of self.old) t u)) result self.new }
     {
-        self.slots[t.index()].row.step(u, step, machine)
+        self.rows[t.index()].step(u, step, machine)
     }
 
     // One step of t's leading shadow. Nothing is accounted for where the reader does not have the step's page.
@@ -133,9 +124,9 @@ impl Table {
         ensures { Stepped self.old (λ e. lead_takes (engine_of self.old) t step.now (stand_at (engine_of self.old) t t) e) (takes (A.Arithmetic.meaning machine.now.arithmetic.now) (R.Reader.pages machine.now.reader.now) step.now (stand_at (engine_of self.old) t t)) result self.new }
     {
         let lead = self.shadow_at(t, t);
-        check_step(lead, *step, machine.reader)?;
         let read = lead.store_read(Some(*step));
         let written = lead.write_of(Some(*step));
+        check_page(read.or(written), machine.reader)?;
         self.before_step(t, read);
         self.step(t, t, step, machine)?;
         self.after_step(t, written);

@@ -1,11 +1,10 @@
-use Rattle.std.proofs.Common.{◌≡◌, map}
-use Rattle.engine.specs.Table.{script_held}
+use Rattle.std.proofs.Common.{◌≡◌}
 use Rattle.engine.proofs.Tables.{Renewed}
 use Rattle.engine.proofs.table.Table.renew_all.Given as goal
 
 abbrev pub invariant-loop-v : goal.invariant-loop-v
 invariant-loop-v l = record {
-  rows : Renewed l.own l.initial.self.slots l.v-index l.self.slots;
-  scripts : map script_held l.self.slots ≡ map script_held l.initial.self.slots;
+  rows : Renewed l.own l.t l.initial.self.rows l.v-index l.self.rows;
+  scripts : l.self.scripts ≡ l.initial.self.scripts;
   allowance : l.self.allowance ≡ l.initial.self.allowance;
 }

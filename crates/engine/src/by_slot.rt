@@ -1,0 +1,83 @@
+// What some of the slots have, by slot.
+ghost use Rattle.std.specs.Prelude.{◌≡◌, length, replicate, is_some, Some, None, slice_index_or, slice_set};
+ghost use Rattle.std.specs.List.{filter};
+ghost use Rattle.std.specs.Option.{option_copied};
+ghost use Rattle.engine.specs.BySlot.{by_slot};
+
+use crate::slot::{SLOTS, Slot};
+
+// Flags stand apart from the things: a look at which slots have one touches no thing, and one is taken away by its flag. What
+// lies where no flag stands is never spoken of.
+#[derive(Clone, Copy)]
+pub struct BySlot<T> {
+    there: [bool; SLOTS],
+    // A shadow is lent to a step from here.
+    pub(crate) things: [T; SLOTS],
+}
+
+impl<T: Copy> BySlot<T> {
+    // Nothing for any slot. `unused` fills the room.
+    pub(crate) fn new(unused: T) -> BySlot<T>
+        ensures { by_slot result ≡ replicate 8 None }
+    {
+        BySlot {
+            there: [false; SLOTS],
+            things: [unused; SLOTS],
+        }
+    }
+
+    pub(crate) fn has(&self, u: Slot) -> bool
+        ensures { result ≡ is_some (slice_index_or (by_slot self.now) u None) }
+    {
+        self.there[u.index()]
+    }
+
+    pub(crate) fn get(&self, u: Slot) -> Option<&T>
+        ensures { option_copied result ≡ slice_index_or (by_slot self.now) u None }
+    {
+        if self.has(u) {
+            Some(&self.things[u.index()])
+        } else {
+            None
+        }
+    }
+
+    pub(crate) fn put(&mut self, u: Slot, thing: T)
+        ensures { by_slot self.new ≡ slice_set (by_slot self.old) u (Some thing) }
+    {
+        self.things[u.index()] = thing;
+        self.there[u.index()] = true;
+    }
+
+    // Slot u has from here on what slot i has, by a copy from place to place: by way of a value it would be copied thrice.
+    pub(crate) fn copy(&mut self, u: Slot, i: Slot)
+        ensures { by_slot self.new ≡ slice_set (by_slot self.old) u (slice_index_or (by_slot self.old) i None) }
+    {
+        self.things[u.index()] = self.things[i.index()];
+        self.there[u.index()] = self.there[i.index()];
+    }
+
+    pub(crate) fn take_away(&mut self, u: Slot)
+        ensures { by_slot self.new ≡ slice_set (by_slot self.old) u None }
+    {
+        self.there[u.index()] = false;
+    }
+
+    pub(crate) fn clear(&mut self)
+        ensures { by_slot self.new ≡ replicate 8 None }
+    {
+        self.there = [false; SLOTS];
+    }
+
+    // How many slots have one.
+    pub(crate) fn count(&self) -> usize
+        ensures { result ≡ length (filter (λ x. is_some x) (by_slot self.now)) }
+    {
+        // Added up, and not by `filter` and `count`, which test each flag: no guess of the processor serves for those.
+        let mut count = 0;
+        for there in &self.there {
+            count += usize::from(*there);
+        }
+        count
+    }
+}
