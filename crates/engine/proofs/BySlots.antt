@@ -1,5 +1,5 @@
 -- Things and their flags. Assumes nothing.
-use Rattle.std.proofs.Common.{◌≡◌, ℕ, zero, suc, ◌+◌, ◌<◌, ◌≤◌, take, Bool, true, false, cond, List, [], ◌∷◌, length, replicate, get_or, set, is_some, Some, None, refl, sym, ap, ◌∙◌, arith}
+use Rattle.std.proofs.Common.{◌≡◌, ℕ, zero, suc, ◌+◌, ◌<◌, ◌≤◌, take, Bool, true, false, cond, List, [], ◌∷◌, length, get_or, set, is_some, Some, None, refl, sym, ap, ◌∙◌, arith}
 use mir.Val.{bool_byte}
 use Rattle.std.specs.List.{filter}
 use Rattle.std.proofs.lemmas.List.{set-get_or}
@@ -44,11 +44,6 @@ module _ {T : Type 0} where
   flag-falls (c ∷ bs) [] (suc i) = refl
   flag-falls (c ∷ bs) (y ∷ xs) zero = refl
   flag-falls (c ∷ bs) (y ∷ xs) (suc i) = ap (λ q. cond c (Some y) None ∷ q) (flag-falls bs xs i)
-
-  pub no_flags : (n : ℕ) (xs : List T) → length xs ≡ n → flagged (replicate n false) xs ≡ replicate n None
-  no_flags zero xs h = refl
-  no_flags (suc n) [] h = absurd (omega arith)
-  no_flags (suc n) (x ∷ xs) h = ap (λ q. None ∷ q) (no_flags n xs (omega arith))
 
   pub flags_counted : (bs : List Bool) (xs : List T) → length bs ≡ length xs → length (filter (λ b. b) bs) ≡ length (filter (λ x. is_some x) (flagged bs xs))
   flags_counted [] xs h = refl

@@ -98,7 +98,7 @@ no_shadow = record {
   own = record { items = []; len = 0 };
 }
 
--- a row has eight places
+-- a row has as many places as flags
 pub row-length : (bs : List Bool) (xs : List Shadow) → length bs ≡ length xs → length (view (flagged bs xs)) ≡ length bs
 row-length bs xs l = simp length-map (flagged-length bs xs l)
 

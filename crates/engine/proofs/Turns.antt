@@ -13,7 +13,7 @@ use Rattle.serial.specs.Rules.{Engine, shadow, with_shadow, before_step, after_s
 use Rattle.engine.specs.declared.row.Row.{Row}
 use Rattle.engine.specs.declared.table.Table.{Table}
 use Rattle.engine.specs.View.{Room}
-use Rattle.engine.specs.Table.{row_of, engine_of, Lent, page_needed, checked, lead_takes, Stepped}
+use Rattle.engine.specs.Table.{row_of, engine_of, Lent, checked, lead_takes, Stepped}
 use Rattle.engine.proofs.Tables.{no_row, same_row, row-set}
 use Rattle.engine.proofs.Accounts.{before_keeps}
 
@@ -21,9 +21,6 @@ use Rattle.engine.proofs.Accounts.{before_keeps}
 module _ (b : Table) (t u : ℕ) where
   abbrev pub with_step : Row → Table
   with_step x = record { allowance = b.allowance; scripts = b.scripts; rows = set b.rows t x }
-
-  pub row-there : is_some (shadow (engine_of b) t u) ≡ true → is_some (get_or (row_of (get_or b.rows t no_row)) u None) ≡ true
-  row-there h = ap (λ r. is_some (get_or r u None)) (same_row b t) ∙ h
 
   row_stepped : (k : Taken) (r : Result (Unit {0}) StoreFault) (x : Row) → Lent (get_or b.rows t no_row) u k r x → Stepped b (λ e. with_shadow (engine_of b) t u (Some e)) k r (with_step x)
   row_stepped (moved e) r x h = (h.0, row-set b t x _ (h.1 ∙ ap (λ q. set q u (Some e)) (same_row b t)))
@@ -33,6 +30,10 @@ module _ (b : Table) (t u : ℕ) where
   row_steps ar pages st r x h =
       row_stepped (takes ar pages st (unwrap_or (shadow (engine_of b) t u) start)) r x
       (subst (λ q. Lent (get_or b.rows t no_row) u (takes ar pages st (unwrap_or (get_or q u None) start)) r x) (same_row b t) h)
+
+-- the page that the store must have for the next step
+abbrev pub page_needed : Option Step → Stand → Option ℕ
+page_needed st s = option_or (store_read st s) (write_of st s)
 
 -- the check of a step's page tells how the step ends
 abbrev Tells : Taken → Result (Unit {0}) StoreFault → Type 0

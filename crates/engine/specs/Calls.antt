@@ -19,6 +19,7 @@ abbrev pub answers_by : {X : Type 0} → (X → Accepted) → Result X CallFault
 answers_by f (Ok x) = Ok (f x)
 answers_by f (Err fault) = Err fault
 
+-- a commit's pair as what it answers
 abbrev pub committing : ℕ × ℕ → Accepted
 committing x = Committed x.0 x.1
 

@@ -1,6 +1,6 @@
 -- The table of shadows as the rules have it. Assumes nothing.
 use Rattle.std.specs.Prelude.{◌≡◌, ℕ, Bool, true, false, cond, not, List, map, is_some, Some, None, Ok, Err, Option, Result, ◌==◌, nat_lt, slice_index_or, slice_set}
-use Rattle.std.specs.Option.{option_map, option_or}
+use Rattle.std.specs.Option.{option_map}
 use Rattle.pages.specs.Pages.{fault_at}
 use Rattle.pages.specs.declared.StoreFault.{StoreFault}
 use Rattle.pages.specs.declared.WriteEntry.{WriteEntry}
@@ -25,13 +25,15 @@ row_of r = map (option_map stand_of) (by_slot r.shadows)
 abbrev pub scripts_of : BySlot Script → List (Option Steps)
 scripts_of s = map (option_map steps_of) (by_slot s)
 
--- the table, with the script of each open slot
+-- a table as the rules' engine
 abbrev pub engine_of : Table → Engine
 engine_of t = record { allowance = t.allowance; scripts = scripts_of t.scripts; shadows = map row_of t.rows }
 
+-- with another allowance
 abbrev pub with_allowance : Engine → ℕ → Engine
 with_allowance e k = record { allowance = k; scripts = e.scripts; shadows = e.shadows }
 
+-- with other rows
 abbrev pub with_rows : Engine → List (List (Option Stand)) → Engine
 with_rows e rows = record { allowance = e.allowance; scripts = e.scripts; shadows = rows }
 
@@ -45,16 +47,16 @@ abbrev pub without_column : Engine → ℕ → Engine
 without_column e t = with_rows e (map (cleared t) e.shadows)
 
 -- the shadow at a place of a row, where one is given
-abbrev pub placed : List (Option Stand) → Option ℕ → Option Stand
-placed shadows None = None
-placed shadows (Some u) = slice_index_or shadows u None
+abbrev pub there_at : List (Option Stand) → Option ℕ → Option Stand
+there_at shadows None = None
+there_at shadows (Some u) = slice_index_or shadows u None
 
--- and there is one at a place that is given
+-- where a place is given, a shadow is at it
 abbrev pub IsThere : List (Option Stand) → Option ℕ → Type 0
 IsThere shadows None = Unit {0}
 IsThere shadows (Some u) = is_some (slice_index_or shadows u None) ≡ true
 
--- a shadow that has read no page of the list
+-- whether a shadow has read no page of the list
 abbrev pub unread : List WriteEntry → Stand → Bool
 unread list s = not (has_read_any s.reads list)
 
@@ -69,11 +71,7 @@ abbrev pub Lent : Row → ℕ → Taken → Result (Unit {0}) StoreFault → Row
 Lent s u (moved e) r t = (r ≡ Ok tt) × (row_of t ≡ slice_set (row_of s) u (Some e))
 Lent s u (off_pages p) r t = (r ≡ Err (fault_at p)) × (t ≡ s)
 
--- the page that the store must have for the next step
-abbrev pub page_needed : Option Step → Stand → Option ℕ
-page_needed st s = option_or (store_read st s) (write_of st s)
-
--- whether a store of n pages has it
+-- whether a store of n pages has a page, where one is needed
 abbrev pub checked : ℕ → Option ℕ → Result (Unit {0}) StoreFault
 checked n None = Ok tt
 checked n (Some p) = cond (nat_lt p n) (Ok tt) (Err (fault_at p))
@@ -83,6 +81,7 @@ abbrev pub lead_takes : Engine → ℕ → Step → Stand → Stand → Engine
 lead_takes e t st s to =
     after_step (with_shadow (before_step e t (store_read (Some st) s)) t t (Some to)) t (write_of (Some st) s)
 
+-- any shadow of t takes the step st: only those of the leading one are accounted for
 abbrev pub shadow_takes : Engine → ℕ → ℕ → Step → Stand → Stand → Engine
 shadow_takes e t u st s to = cond (u == t) (lead_takes e t st s to) (with_shadow e t u (Some to))
 

@@ -10,6 +10,7 @@ use Rattle.script.specs.declared.Script.{Script}
 use Rattle.serial.specs.Machine.{Steps, Stand, written, write, recorded, Taken, moved, off_pages}
 use Rattle.engine.specs.declared.shadow.Shadow.{Shadow}
 
+-- where a shadow stands, as the rules have it
 abbrev pub stand_of : Shadow → Stand
 stand_of s =
     record { step = s.step; registers = s.registers; reads = items_of s.reads; own = items_of s.own }
@@ -50,6 +51,7 @@ FetchedBy pages s p (Some w) r t = (r ≡ Ok w) × (t ≡ s)
 FetchedBy pages s p None (Ok w) t = (p < length pages) × (w ≡ slice_index pages p) × (stand_of t ≡ recorded (stand_of s) p)
 FetchedBy pages s p None (Err f) t = (length pages ≤ p) × (f ≡ fault_at p) × (t ≡ s)
 
+-- and whether it stands on the own list is looked up there
 abbrev pub Fetched : List ℕ → Shadow → ℕ → Result ℕ StoreFault → Shadow → Type 0
 Fetched pages s p r t = FetchedBy pages s p (written (stand_of s).own p) r t
 

@@ -6,12 +6,12 @@ ghost use Rattle.engine.specs.BySlot.{by_slot};
 
 use crate::slot::{SLOTS, Slot};
 
-// Flags stand apart from the things: a look at which slots have one touches no thing, and one is taken away by its flag. What
-// lies where no flag stands is never spoken of.
+// Flags lie apart from the things: a look at which slots have one touches no thing, and one is taken away by its flag.
+// `by_slot` does not see what lies where no flag is up.
 #[derive(Clone, Copy)]
 pub struct BySlot<T> {
     there: [bool; SLOTS],
-    // A shadow is lent to a step from here.
+    // `Row::step` alone goes past the flags, to lend a shadow that is there to a step.
     pub(crate) things: [T; SLOTS],
 }
 
@@ -49,12 +49,13 @@ impl<T: Copy> BySlot<T> {
         self.there[u.index()] = true;
     }
 
-    // Slot u has from here on what slot i has, by a copy from place to place: by way of a value it would be copied thrice.
-    pub(crate) fn copy(&mut self, u: Slot, i: Slot)
-        ensures { by_slot self.new ≡ slice_set (by_slot self.old) u (slice_index_or (by_slot self.old) i None) }
+    // Slot `to` has from here on what slot `from` has, by a copy from place to place: by way of a value it would be copied
+    // three times.
+    pub(crate) fn copy(&mut self, to: Slot, from: Slot)
+        ensures { by_slot self.new ≡ slice_set (by_slot self.old) to (slice_index_or (by_slot self.old) from None) }
     {
-        self.things[u.index()] = self.things[i.index()];
-        self.there[u.index()] = self.there[i.index()];
+        self.things[to.index()] = self.things[from.index()];
+        self.there[to.index()] = self.there[from.index()];
     }
 
     pub(crate) fn take_away(&mut self, u: Slot)
@@ -73,7 +74,8 @@ impl<T: Copy> BySlot<T> {
     pub(crate) fn count(&self) -> usize
         ensures { result ≡ length (filter (λ x. is_some x) (by_slot self.now)) }
     {
-        // Added up, and not by `filter` and `count`, which test each flag: no guess of the processor serves for those.
+        // `filter` and `count` test each flag, and the processor guesses such tests badly. A `sum` would ask for a proof that it
+        // fits.
         let mut count = 0;
         for there in &self.there {
             count += usize::from(*there);

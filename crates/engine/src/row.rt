@@ -1,10 +1,10 @@
 // A row of the table: the shadows of one slot, by the slot that each is for.
-ghost use Rattle.std.specs.Prelude.{◌≡◌, ◌+◌, ◌<◌, true, [], ◌∷◌, is_some, Some, None, slice_index_or, slice_set};
+ghost use Rattle.std.specs.Prelude.{◌≡◌, true, is_some, Some, None, slice_index_or, slice_set};
 ghost use Rattle.std.specs.Option.{unwrap_or, option_map};
 ghost use Rattle.serial.specs.Machine.{start as started, takes};
 ghost use Rattle.serial.specs.Rules.{no_shadows, place_of, better as better_of, furthest_of, any_shadow, count as counted, kept, remaining, spoils, renewed};
-ghost use Rattle.engine.specs.View.{stand_of, seen, Room};
-ghost use Rattle.engine.specs.Table.{row_of, unread, passes, placed, IsThere, Lent};
+ghost use Rattle.engine.specs.View.{seen, Room};
+ghost use Rattle.engine.specs.Table.{row_of, unread, passes, there_at, IsThere, Lent};
 
 use crate::by_slot::BySlot;
 use crate::machine::Machine;
@@ -35,7 +35,7 @@ impl Row {
         self.shadows.get(u)
     }
 
-    // Where the shadow for u stands.
+    // The step of the shadow for u, 0 where there is none.
     pub(crate) fn step_at(&self, u: Slot) -> usize
         ensures { result ≡ place_of (slice_index_or (row_of self.now) u None) }
     {
@@ -45,10 +45,10 @@ impl Row {
     // The shadow for u becomes a copy of the one at a place of the row, or a start where no place is given.
     pub(crate) fn fork(&mut self, u: Slot, from: Option<Slot>)
         requires there { IsThere (row_of self.old) from }
-        ensures { row_of self.new ≡ slice_set (row_of self.old) u (Some (unwrap_or (placed (row_of self.old) from) started)) }
+        ensures { row_of self.new ≡ slice_set (row_of self.old) u (Some (unwrap_or (there_at (row_of self.old) from) started)) }
     {
         match from {
-            Some(i) => self.shadows.copy(u, i),
+            Some(place) => self.shadows.copy(u, place),
             None => self.shadows.put(u, Shadow::start()),
         }
     }
@@ -85,7 +85,7 @@ impl Row {
     // looked at first: most shadows are behind.
     fn better(&self, best: Option<Slot>, other: Slot, list: &[WriteEntry]) -> Option<Slot>
         requires there { IsThere (row_of self.now) best }
-        ensures rule { placed (row_of self.now) result ≡ better_of (unread list.now) (placed (row_of self.now) best) (slice_index_or (row_of self.now) other None) }
+        ensures rule { there_at (row_of self.now) result ≡ better_of (unread list.now) (there_at (row_of self.now) best) (slice_index_or (row_of self.now) other None) }
         ensures there { IsThere (row_of self.now) result }
     {
         match best {
@@ -95,12 +95,13 @@ impl Row {
         }
     }
 
-    // Where the furthest of slot t's shadows that have read no page of the list stands.
+    // The place in the row of slot t's furthest shadow that has read no page of the list.
     pub(crate) fn furthest_clean(&self, t: Slot, list: &[WriteEntry]) -> Option<Slot>
-        ensures rule { placed (row_of self.now) result ≡ furthest_of (unread list.now) t (row_of self.now) }
+        ensures rule { there_at (row_of self.now) result ≡ furthest_of (unread list.now) t (row_of self.now) }
         ensures there { IsThere (row_of self.now) result }
     {
-        // A `for`, tried as a `fold`: of `better` only the view of its answer is known, and a fold's proof asks for a function.
+        // A `for`, tried as a `fold`: of `better` only what is at the place that it answers is known, and a fold's
+        // proof asks for a function.
         let mut best = self.better(None, t, list);
         for u in Slot::all() {
             best = self.better(best, u, list);
@@ -109,7 +110,7 @@ impl Row {
     }
 
     // Whether there is a shadow for u that has read a page of the list.
-    fn is_spoiled(&self, u: Slot, own: &[WriteEntry]) -> bool
+    fn is_reader(&self, u: Slot, own: &[WriteEntry]) -> bool
         ensures { result ≡ spoils own.now (slice_index_or (row_of self.now) u None) }
     {
         self.get(u).is_some_and(|shadow| shadow.has_read_any(own))
@@ -119,7 +120,7 @@ impl Row {
     fn drop_reader(&mut self, u: Slot, own: &[WriteEntry])
         ensures { row_of self.new ≡ slice_set (row_of self.old) u (kept own.now (slice_index_or (row_of self.old) u None)) }
     {
-        if self.is_spoiled(u, own) {
+        if self.is_reader(u, own) {
             self.take_away(u);
         }
     }
@@ -133,10 +134,11 @@ impl Row {
         }
     }
 
-    // Slot v's furthest shadow leads from here on, or else one at step 0. None has read a page of the empty list.
+    // Slot v's furthest shadow leads from here on, or else one at step 0.
     fn lead_again(&mut self, v: Slot)
         ensures { row_of self.new ≡ slice_set (row_of self.old) v (Some (unwrap_or (furthest_of any_shadow v (row_of self.old)) started)) }
     {
+        // No shadow has read a page of the empty list.
         let furthest = self.furthest_clean(v, &[]);
         self.fork(v, furthest);
     }

@@ -12,7 +12,7 @@ use serial::ReadEntry;
 
 mod effects;
 
-// A fork copies it by value. Clauses see it by `stand_of`: a model would forget the unused places of its lists, and a copy
+// A fork copies it by value, from one place of its row to another. Clauses see it by `stand_of`: a model would forget the unused places of its lists, and a copy
 // needs them.
 #[derive(Clone, Copy)]
 pub struct Shadow {
@@ -76,7 +76,7 @@ impl Shadow {
     }
 
     // A copy of the own list.
-    pub(crate) fn list(&self) -> Trail<WriteEntry, MOST_STEPS>
+    pub(crate) fn own_copy(&self) -> Trail<WriteEntry, MOST_STEPS>
         ensures { items_of result ≡ (stand_of self.now).own }
     {
         self.own

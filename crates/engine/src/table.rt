@@ -3,10 +3,10 @@ ghost use Rattle.std.specs.Prelude.{◌≡◌, find, Some, None};
 ghost use Rattle.std.specs.Option.{option_map, unwrap_or};
 ghost use Rattle.script.specs.View.{steps_of};
 ghost use Rattle.serial.specs.Machine.{start as started};
-ghost use Rattle.serial.specs.Rules.{slots, no_shadows, fresh_engine, script_of, is_open, row as row_at, shadow as shadow_at, with_shadow, begun, closed, renew, committed};
+ghost use Rattle.serial.specs.Rules.{slots, fresh_engine, script_of, is_open, row as row_at, shadow as shadow_at, with_shadow, begun, closed, renew, committed};
 ghost use Rattle.serial.specs.Sound.{ClosedBare, OpenLed};
-ghost use Rattle.engine.specs.View.{stand_of, seen, steps_seen};
-ghost use Rattle.engine.specs.Table.{row_of, engine_of, with_allowance, with_rows, without_slot, without_column, placed, IsThere};
+ghost use Rattle.engine.specs.View.{seen, steps_seen};
+ghost use Rattle.engine.specs.Table.{row_of, engine_of, with_allowance, with_rows, without_slot, without_column, there_at, IsThere};
 
 use crate::by_slot::BySlot;
 use crate::row::Row;
@@ -26,19 +26,16 @@ pub struct Table {
     rows: [Row; SLOTS],
 }
 
-// A script for the room of closed slots, where none is ever run: one step, which sets register 0 to 0.
-fn unused_script() -> Script {
-    decode(&[1, 0x40, 0, 0, 0, 0]).unwrap()
-}
-
 impl Table {
     // All slots closed, with room for two shadows each.
     pub(crate) fn new() -> Table
         ensures { engine_of result ≡ fresh_engine }
     {
+        // For the room of slots that have not been opened: one step, which sets register 0 to 0, and is never run.
+        let unused = decode(&[1, 0x40, 0, 0, 0, 0]).unwrap();
         Table {
             allowance: 2,
-            scripts: BySlot::new(unused_script()),
+            scripts: BySlot::new(unused),
             rows: [Row::new(); SLOTS],
         }
     }
@@ -90,7 +87,7 @@ impl Table {
     // Slot t's shadow for u becomes a copy of the one at a place of t's row, or a start where no place is given.
     pub(crate) fn fork(&mut self, t: Slot, u: Slot, from: Option<Slot>)
         requires there { IsThere (row_at (engine_of self.old) t) from }
-        ensures { engine_of self.new ≡ with_shadow (engine_of self.old) t u (Some (unwrap_or (placed (row_at (engine_of self.old) t) from) started)) }
+        ensures { engine_of self.new ≡ with_shadow (engine_of self.old) t u (Some (unwrap_or (there_at (row_at (engine_of self.old) t) from) started)) }
     {
         self.rows[t.index()].fork(u, from);
     }
@@ -129,7 +126,8 @@ impl Table {
         self.clear_column(t);
     }
 
-    // Every row after a commit of slot t's list. A closed slot has no shadow, and its row is not looked at.
+    // Every row after a commit of slot t's list, and without its shadow for t. A closed slot has no shadow, and its row is not
+    // looked at.
     fn renew_all(&mut self, t: Slot, own: &[WriteEntry])
         requires bare { ClosedBare (engine_of self.old) }
         requires led { OpenLed (engine_of self.old) }

@@ -1,5 +1,5 @@
 // The five calls.
-ghost use Rattle.std.specs.Prelude.{◌≡◌, ℕ, List, length, None, OnErr};
+ghost use Rattle.std.specs.Prelude.{◌≡◌, ℕ, List, None, OnErr};
 ghost use Rattle.serial.specs.declared.fault.Accepted.TheVariants.{Allowed, Begun, Took, Aborted};
 ghost use Rattle.serial.specs.Rules.{fresh_engine, lead_writes, first_off, allows, begins, turns, commits, aborts};
 ghost use Rattle.engine.specs.Table.{engine_of};
@@ -106,8 +106,8 @@ impl Engine {
         }
         put_all(lead.own(), store);
         let word = lead.register(Register::R0);
-        // A copy, since the table changes while it is looked at.
-        let own = lead.list();
+        // A copy, since the table changes while the list is gone over.
+        let own = lead.own_copy();
         self.table.commit_slot(t, own.as_slice());
         Ok((word, own.len()))
     }

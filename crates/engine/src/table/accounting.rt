@@ -4,7 +4,7 @@ ghost use Rattle.std.specs.Option.{option_map};
 ghost use Rattle.serial.specs.Machine.{has_read, has_written as stands_on};
 ghost use Rattle.serial.specs.Rules.{slots, row as row_at, own_of, reads_of, shadow as shadow_at, lead_writes, clean, furthest_of, has_room, account as accounted, read_conflict, account_read, account_reads, write_conflict, account_write, account_writes, before_step, after_step};
 ghost use Rattle.engine.specs.View.{seen};
-ghost use Rattle.engine.specs.Table.{engine_of, placed, IsThere};
+ghost use Rattle.engine.specs.Table.{engine_of, there_at, IsThere};
 
 use super::Table;
 use crate::shadow::{Shadow, has_written};
@@ -37,9 +37,9 @@ impl Table {
             .is_some_and(|shadow| shadow.has_read(page))
     }
 
-    // Where in its row the furthest of slot t's shadows that have read nothing u's leading shadow has written stands.
+    // The place in its row of slot t's furthest shadow that has read nothing u's leading shadow has written.
     fn furthest_for(&self, t: Slot, u: Slot) -> Option<Slot>
-        ensures rule { placed (row_at (engine_of self.now) t) result ≡ furthest_of (clean (engine_of self.now) u) t (row_at (engine_of self.now) t) }
+        ensures rule { there_at (row_at (engine_of self.now) t) result ≡ furthest_of (clean (engine_of self.now) u) t (row_at (engine_of self.now) t) }
         ensures there { IsThere (row_at (engine_of self.now) t) result }
     {
         self.row(t).furthest_clean(t, own_of(self.shadow(u, u)))
@@ -53,6 +53,7 @@ impl Table {
     }
 
     // Slot t's shadow for u goes on from t's furthest that is clean for u, where there is room for it.
+    // Not part of the loops over the slots, which stay short so: most steps account for nothing.
     #[inline(never)]
     pub(crate) fn account(&mut self, t: Slot, u: Slot)
         ensures { engine_of self.new ≡ accounted (engine_of self.old) t u }

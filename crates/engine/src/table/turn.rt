@@ -6,7 +6,7 @@ ghost use Rattle.serial.specs.Alone.{next, on_list};
 ghost use Rattle.serial.specs.Rules.{script_of, shadow as shadow_at, with_shadow, place_of, lead_writes, shadow_moves, waits as has_to_wait, standing as stands};
 ghost use Rattle.engine.specs.View.{stand_of, Room};
 ghost use Rattle.engine.specs.Named.{NamedBy, script_at, stand_at};
-ghost use Rattle.engine.specs.Table.{engine_of, page_needed, checked, lead_takes, shadow_takes, Stepped, TookTurn};
+ghost use Rattle.engine.specs.Table.{engine_of, checked, lead_takes, shadow_takes, Stepped, TookTurn};
 
 use super::Table;
 use crate::machine::Machine;

@@ -10,5 +10,5 @@ returns g c =
     let l : length bs ≡ length xs = omega arith in
     let d = c.index-self-index.result in
     rw (c.index.ensures.place, c.index-2.ensures.place, c.index-3.ensures.place, c.index-4.ensures.place)
-    (flagged-set bs xs c.args.u (get_or bs c.args.i false) (get_or xs c.args.i d)
-    ∙ ap (set (flagged bs xs) c.args.u) (sym (flagged-at bs xs c.args.i d l)))
+    (flagged-set bs xs c.args.to (get_or bs c.args.from false) (get_or xs c.args.from d)
+    ∙ ap (set (flagged bs xs) c.args.to) (sym (flagged-at bs xs c.args.from d l)))

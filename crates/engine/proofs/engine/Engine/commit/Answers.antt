@@ -32,4 +32,4 @@ invariant_of-self g c =
     ap (λ n. first_off n lead.own) (sym c.size.ensures) ∙ ap (first_off c.size.result) (sym c.own.ensures) ∙ sym c.first_missing.ensures.rule ∙ c.in_default.is in
     kept_by idle (commit t) c.args.self.now pages (put_all lead.own pages) c.commit_slot.new.self (committed e t lead.own) (Ok (Committed (holds lead R0) (length lead.own)))
     (commit_by_puts (state_of c.args.self.now pages) t sc lead None c.in_ok-t.ensures.1 there (sym c.shadow_at-lead.ensures) far none)
-    (c.commit_slot.ensures ∙ ap (committed e t) (c.as_slice.ensures.items ∙ c.list-own.ensures))
+    (c.commit_slot.ensures ∙ ap (committed e t) (c.as_slice.ensures.items ∙ c.own_copy-own.ensures))

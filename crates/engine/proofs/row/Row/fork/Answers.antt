@@ -10,8 +10,8 @@ use Rattle.engine.proofs.row.Row.fork.Goals as goal
 pub returns-in-Some : goal.returns-in-Some
 returns-in-Some c =
     let shadows = row_of c.args.self.now in
-    let there : is_some (get_or shadows c.in-Some.i None) ≡ true = subst (IsThere shadows) c.in-Some.is c.requires.there in
-    rw c.in-Some.is (ap view c.copy.ensures ∙ set_copy (by_slot c.args.self.now.shadows) c.args.u c.in-Some.i there)
+    let there : is_some (get_or shadows c.in-Some.place None) ≡ true = subst (IsThere shadows) c.in-Some.is c.requires.there in
+    rw c.in-Some.is (ap view c.copy.ensures ∙ set_copy (by_slot c.args.self.now.shadows) c.args.u c.in-Some.place there)
 
 pub returns-in-None : goal.returns-in-None
 returns-in-None c =
