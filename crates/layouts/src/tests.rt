@@ -2,6 +2,7 @@
 use basics::Refusal;
 use pages::{Flat, Log, Reader, Store, StoreFault};
 use script::{ScriptFault, decode};
+use std::process::Abort;
 use std::test::Fail;
 
 // One page, room for one entry, which is used and names page 0: its word hides the base word until a put carries it.
@@ -79,8 +80,25 @@ fn refused(bytes: &'static [u8], number: u32, value: usize) -> Case {
     }
 }
 
+// Each case is decoded, or refused, as it says.
+fn check_all(rt: &impl Abort, cases: &[Case]) -> Result<(), Fail> {
+    for case in cases {
+        match decode(case.bytes) {
+            Ok(_) => assert_eq!(rt; None, case.told),
+            Err(fault) => {
+                let value = fault
+                    .value(0)
+                    .ok_or("a refusal of a script returns one value")?;
+                assert_eq!(rt; Some((fault.number(), value)), case.told);
+                assert_eq!(rt; fault.value(1), None);
+            }
+        }
+    }
+    Ok(())
+}
+
 #[test]
-fn damaged_scripts(rt: HostRuntime) -> Result<(), Fail> {
+fn scripts_of_wrong_length(rt: HostRuntime) -> Result<(), Fail> {
     let cases = [
         // no bytes; a size of 0 or above 16
         refused(&[], 5, 0),
@@ -97,6 +115,13 @@ fn damaged_scripts(rt: HostRuntime) -> Result<(), Fail> {
         refused(&[2, 0x40, 0x40, 0, 0, 0, 0, 0, 0, 0, 0, 0], 5, 12),
         // an undefined step is of no account where the length is wrong
         refused(&[1, 0xf0, 0, 0, 0], 5, 5),
+    ];
+    check_all(&rt, &cases)
+}
+
+#[test]
+fn undefined_actions(rt: HostRuntime) -> Result<(), Fail> {
+    let cases = [
         // actions 7 to 15
         refused(&[1, 0x70, 0, 0, 0, 0], 6, 0),
         refused(&[1, 0x80, 0, 0, 0, 0], 6, 0),
@@ -107,6 +132,13 @@ fn damaged_scripts(rt: HostRuntime) -> Result<(), Fail> {
         refused(&[1, 0xd0, 0, 0, 0, 0], 6, 0),
         refused(&[1, 0xe0, 0, 0, 0, 0], 6, 0),
         refused(&[1, 0xf0, 0, 0, 0, 0], 6, 0),
+    ];
+    check_all(&rt, &cases)
+}
+
+#[test]
+fn bounds_of_combine_and_skip(rt: HostRuntime) -> Result<(), Fail> {
+    let cases = [
         // combine: operation 2, operation 3, and operation 2 with its bytes the wrong way round
         accepted(&[1, 0x51, 0, 0, 0, 2]),
         refused(&[1, 0x51, 0, 0, 0, 3], 6, 0),
@@ -129,6 +161,13 @@ fn damaged_scripts(rt: HostRuntime) -> Result<(), Fail> {
             6,
             1,
         ),
+    ];
+    check_all(&rt, &cases)
+}
+
+#[test]
+fn bits_of_no_register(rt: HostRuntime) -> Result<(), Fail> {
+    let cases = [
         // bits of register b where an action has none
         refused(&[1, 0x01, 0, 0, 0, 0], 6, 0),
         refused(&[1, 0x02, 0, 0, 0, 0], 6, 0),
@@ -139,6 +178,13 @@ fn damaged_scripts(rt: HostRuntime) -> Result<(), Fail> {
         refused(&[1, 0x41, 0, 0, 0, 0], 6, 0),
         refused(&[1, 0x42, 0, 0, 0, 0], 6, 0),
         refused(&[1, 0x43, 0, 0, 0, 0], 6, 0),
+    ];
+    check_all(&rt, &cases)
+}
+
+#[test]
+fn the_first_undefined_step_is_told(rt: HostRuntime) -> Result<(), Fail> {
+    let cases = [
         // an undefined step in the first, the middle and the last place; the first of two is told
         refused(
             &[3, 0x70, 0x40, 0x40, 0, 0, 0, 0, 0, 0, 0, 0, 0, 0, 0, 0],
@@ -161,17 +207,5 @@ fn damaged_scripts(rt: HostRuntime) -> Result<(), Fail> {
             1,
         ),
     ];
-    for case in &cases {
-        match decode(case.bytes) {
-            Ok(_) => assert_eq!(rt; None, case.told),
-            Err(fault) => {
-                let value = fault
-                    .value(0)
-                    .ok_or("a refusal of a script returns one value")?;
-                assert_eq!(rt; Some((fault.number(), value)), case.told);
-                assert_eq!(rt; fault.value(1), None);
-            }
-        }
-    }
-    Ok(())
+    check_all(&rt, &cases)
 }
