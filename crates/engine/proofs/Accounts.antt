@@ -1,34 +1,12 @@
--- Turns of the loops that account, and what accounting leaves. Assumes nothing.
-use Rattle.std.proofs.Common.{◌≡◌, ℕ, zero, suc, ◌+◌, ◌<◌, ◌≤◌, not, ◌&&◌, eqb, ◌≢◌, List, [], ◌∷◌, length, get_or, drop, set, is_some, Some, None, Option, unwrap_or, sym, refl, ap, ◌∙◌, ⊎_elim, arith}
-use Rattle.std.proofs.lemmas.List.{at_drop_more, at_drop_all, get_or-set_same, get_or-set_other, get_or_past, length-set}
-use Rattle.std.proofs.lemmas.Bool.{cases_lt, cond_both, and_parts, not-true, eqb-false}
+-- What accounting leaves, and loops that account at some of the slots. Assumes nothing.
+use Rattle.std.proofs.Common.{◌≡◌, ℕ, ◌<◌, ◌≤◌, Bool, true, false, not, ◌&&◌, ◌==◌, eqb, ◌≢◌, List, [], ◌∷◌, length, get_or, set, is_some, Some, None, Option, unwrap_or, sym, refl, ap, ◌∙◌, ⊎_elim}
+use Rattle.std.proofs.lemmas.List.{get_or-set_same, get_or-set_other, get_or_past, length-set}
+use Rattle.std.proofs.lemmas.Bool.{cases_lt, cond_both, and_parts, not-true, eqb-false, cond-false, true≢false}
 use Rattle.serial.specs.Machine.{Stand, start, has_written}
-use Rattle.serial.specs.Rules.{Engine, slots, row, shadow, is_open, lead_writes, with_shadow, clean, furthest_of, has_room, account, read_conflict, account_read, account_reads, before_step}
-
-pub slot_at : (items : List ℕ) (i d : ℕ) → items ≡ slots → i < 8 → get_or items i d ≡ i
-slot_at items i d h low = ap (λ xs. get_or xs i d) h ∙ at i low
-  where
-    at : (u : ℕ) → u < 8 → get_or slots u d ≡ u
-    at zero l = refl
-    at (suc zero) l = refl
-    at (suc (suc zero)) l = refl
-    at (suc (suc (suc zero))) l = refl
-    at (suc (suc (suc (suc zero)))) l = refl
-    at (suc (suc (suc (suc (suc zero))))) l = refl
-    at (suc (suc (suc (suc (suc (suc zero)))))) l = refl
-    at (suc (suc (suc (suc (suc (suc (suc zero))))))) l = refl
-    at (suc (suc (suc (suc (suc (suc (suc (suc u)))))))) l = absurd (omega arith)
-
--- a loop that changes an engine at one slot after the other
-module _ (F : Engine → List ℕ → Engine) (f : Engine → ℕ → Engine) (turn : (e : Engine) (u : ℕ) (us : List ℕ) → F e (u ∷ us) ≡ F (f e u) us) (e : Engine) (i : ℕ) (whole : Engine) (inv : F e (drop i slots) ≡ whole) where
-  pub slots_more : (items : List ℕ) (m : Engine) (d : ℕ) → items ≡ slots → i < 8 → m ≡ f e (get_or items i d) → F m (drop (i + 1) slots) ≡ whole
-  slots_more items m d h low k =
-      ap (λ x. F x (drop (i + 1) slots)) (k ∙ ap (λ xs. f e (get_or xs i d)) h)
-      ∙ sym (at_drop_more (F e) slots i d low ∙ turn e (get_or slots i d) (drop (i + 1) slots))
-      ∙ inv
-
-  pub slots_all : 8 ≤ i → F e [] ≡ whole
-  slots_all all = sym (at_drop_all (F e) slots i all) ∙ inv
+use Rattle.serial.specs.Rules.{Engine, slots, row, shadow, is_open, lead_writes, with_shadow, clean, furthest_of, has_room, account, read_conflict, account_read, account_reads, write_conflict, account_write, account_writes, before_step}
+use Rattle.std.specs.List.{filter}
+use Rattle.engine.specs.Table.{unguessed, other_open}
+use Rattle.engine.proofs.Members.{skips}
 
 -- what accounting in row t leaves of t's leading shadow: all
 module _ (t : ℕ) where
@@ -67,3 +45,68 @@ module _ (t : ℕ) where
   pub before_keeps : (e : Engine) (o : Option ℕ) → shadow (before_step e t o) t t ≡ shadow e t t
   before_keeps e None = refl
   before_keeps e (Some p) = reads_keep p e slots
+
+-- reads are accounted for at the other open slots that t has no shadow for, and at no other
+module _ (t p : ℕ) where
+  no_conflict : (a b c d : Bool) → ((a && b) && c) ≡ false → (a && (b && (c && d))) ≡ false
+  no_conflict false b c d h = refl
+  no_conflict true false c d h = refl
+  no_conflict true true false d h = refl
+  no_conflict true true true d h = absurd (true≢false h)
+
+  pub none_to_read : (e : Engine) (u : ℕ) → unguessed e t u ≡ false → account_read e t p u ≡ e
+  none_to_read e u h =
+      cond-false (read_conflict e t p u) (account e t u) e (no_conflict (not (u == t)) (is_open e u) (not (is_some (shadow e t u))) (has_written (lead_writes e u) p) h)
+
+  -- to account for a slot leaves t's shadows for others
+  abbrev SameGuess : ℕ → Engine → Engine → Type 0
+  SameGuess v e m = unguessed m t v ≡ unguessed e t v
+
+  pub guess_stays : (e : Engine) (u v : ℕ) → v ≢ u → unguessed (account_read e t p u) t v ≡ unguessed e t v
+  guess_stays e u v ne =
+      let x : Option Stand = Some (unwrap_or (furthest_of (clean e u) t (row e t)) start) in
+      cond_both (read_conflict e t p u) (account e t u) e (SameGuess v e)
+      (λ _. cond_both (has_room e t u) (with_shadow e t u x) e (SameGuess v e)
+      (λ _. ap (λ o. other_open e t v && not (is_some o)) (ap (λ r. get_or r v None) (put_row t e u x) ∙ get_or-set_other (row e t) u v x None ne))
+      (λ _. refl))
+      (λ _. refl)
+
+  -- a loop over these slots does all
+  abbrev Guessed : Engine → Engine → Type 0
+  Guessed e m = (v : ℕ) → unguessed e t v ≡ false → unguessed m t v ≡ false
+
+  guessed_after : (e m : Engine) (u : ℕ) → Guessed e m → unguessed e t u ≡ true → Guessed e (account_read m t p u)
+  guessed_after e m u k opens v h =
+      guess_stays m u v (λ q. true≢false (sym opens ∙ ap (unguessed e t) (sym q) ∙ h)) ∙ k v h
+
+  pub reads_at : (e : Engine) → account_reads e t p (filter (unguessed e t) slots) ≡ account_reads e t p slots
+  reads_at e =
+      skips (λ m us. account_reads m t p us) (λ m u. account_read m t p u) (λ m u us. refl) (unguessed e t) (Guessed e)
+      (guessed_after e)
+      (λ m u k h. none_to_read m u (k u h))
+      slots e (λ v h. h)
+
+  -- writes at the other open slots, and at no other
+  no_write : (a b c : Bool) → (a && b) ≡ false → (a && (b && c)) ≡ false
+  no_write false b c h = refl
+  no_write true false c h = refl
+  no_write true true c h = absurd (true≢false h)
+
+  pub none_to_write : (e : Engine) (v : ℕ) → other_open e t v ≡ false → account_write e t p v ≡ e
+  none_to_write e v h =
+      cond-false (write_conflict e t p v) (account e v t) e (no_write (not (v == t)) (is_open e v) _ h)
+
+  pub open_stays : (e : Engine) (u v : ℕ) → other_open (account_write e t p u) t v ≡ other_open e t v
+  open_stays e u v =
+      let x : Option Stand = Some (unwrap_or (furthest_of (clean e t) u (row e u)) start) in
+      cond_both (write_conflict e t p u) (account e u t) e (λ m. other_open m t v ≡ other_open e t v)
+      (λ _. cond_both (has_room e u t) (with_shadow e u t x) e (λ m. other_open m t v ≡ other_open e t v) (λ _. refl) (λ _. refl))
+      (λ _. refl)
+
+  -- a loop over the other open slots does all
+  pub writes_at : (e : Engine) → account_writes e t p (filter (other_open e t) slots) ≡ account_writes e t p slots
+  writes_at e =
+      skips (λ m us. account_writes m t p us) (λ m u. account_write m t p u) (λ m u us. refl) (other_open e t) (λ m. (v : ℕ) → other_open m t v ≡ other_open e t v)
+      (λ m u k h v. open_stays m u v ∙ k v)
+      (λ m u k h. none_to_write m u (k u ∙ h))
+      slots e (λ v. refl)

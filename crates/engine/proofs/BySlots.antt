@@ -1,6 +1,5 @@
 -- Things and their flags. Assumes nothing.
-use Rattle.std.proofs.Common.{◌≡◌, ℕ, zero, suc, ◌+◌, ◌<◌, ◌≤◌, take, Bool, true, false, cond, List, [], ◌∷◌, length, get_or, set, is_some, Some, None, refl, sym, ap, ◌∙◌, arith}
-use mir.Val.{bool_byte}
+use Rattle.std.proofs.Common.{◌≡◌, ℕ, zero, suc, Bool, true, false, cond, List, [], ◌∷◌, map, length, get_or, set, is_some, Some, None, refl, sym, ap, ◌∙◌, arith}
 use Rattle.std.specs.List.{filter}
 use Rattle.std.proofs.lemmas.List.{set-get_or}
 use Rattle.engine.specs.BySlot.{flagged}
@@ -51,14 +50,9 @@ module _ {T : Type 0} where
   flags_counted (true ∷ bs) (x ∷ xs) h = ap suc (flags_counted bs xs (omega arith))
   flags_counted (false ∷ bs) (x ∷ xs) h = flags_counted bs xs (omega arith)
 
--- one more flag
-pub flags_more : (bs : List Bool) (i n : ℕ) → i < length bs → n ≡ bool_byte (get_or bs i false) → length (filter (λ b. b) (take i bs)) + n ≡ length (filter (λ b. b) (take (suc i) bs))
-flags_more [] i n low h = absurd (omega arith)
-flags_more (true ∷ bs) zero n low h = let e : n ≡ 1 = h in omega (arith, e)
-flags_more (false ∷ bs) zero n low h = let e : n ≡ 0 = h in omega (arith, e)
-flags_more (true ∷ bs) (suc i) n low h = let e = flags_more bs i n (omega arith) h in omega (arith, e)
-flags_more (false ∷ bs) (suc i) n low h = flags_more bs i n (omega arith) h
-
-pub flag_byte : (b : Bool) → bool_byte b ≤ 1
-flag_byte true = omega arith
-flag_byte false = omega arith
+  -- the flags themselves
+  pub flags_seen : (bs : List Bool) (xs : List T) → length bs ≡ length xs → bs ≡ map (λ x. is_some x) (flagged bs xs)
+  flags_seen [] xs h = refl
+  flags_seen (b ∷ bs) [] h = absurd (omega arith)
+  flags_seen (true ∷ bs) (x ∷ xs) h = ap (λ q. true ∷ q) (flags_seen bs xs (omega arith))
+  flags_seen (false ∷ bs) (x ∷ xs) h = ap (λ q. false ∷ q) (flags_seen bs xs (omega arith))

@@ -1,3 +1,5 @@
+pub mod SlotSets
+pub mod Members
 pub mod BySlots
 pub mod Lists
 pub mod Rows

@@ -3,20 +3,26 @@ use Rattle.std.proofs.Common.{◌≡◌, ⊎_elim, ℕ, suc, ◌+◌, ◌<◌, �
 use Rattle.std.specs.List.{filter}
 use Rattle.std.specs.Option.{option_map}
 use Rattle.std.proofs.Math.ListN.{get_or-map}
-use Rattle.std.proofs.lemmas.List.{length-map, map-set, get_or_default, set-get_or, at_drop_all, take_all, append-nil, length-append, length-take-le, length-drop}
+use Rattle.std.proofs.lemmas.List.{length-map, map-set, get_or_default, set-get_or, get_or_past, get_or-set_same}
 use Rattle.std.proofs.lemmas.List.Edits.{map_over_more}
 use Rattle.pages.specs.declared.StoreFault.{StoreFault}
 use Rattle.script.specs.declared.Step.{Step}
 use Rattle.pages.specs.declared.WriteEntry.{WriteEntry}
-use Rattle.std.proofs.lemmas.Bool.{cases_Bool, cond-true, cond-false, not-true, not-false, true≢false}
+use Rattle.std.proofs.lemmas.Bool.{cases_Bool, cases_lt, cond_both, cond-true, cond-false, not-true, not-false, true≢false}
 use Rattle.serial.specs.Machine.{Meaning, Stand, start, has_read_any, Taken, moved, off_pages, takes}
-use Rattle.serial.specs.Rules.{Row, better, furthest, furthest_of, any_shadow, count, kept, spoils, remaining, renewed}
+use Rattle.serial.specs.Rules.{Row, slots, better, furthest, furthest_of, any_shadow, count, kept, spoils, remaining, renewed}
 use Rattle.serial.proofs.Conflicts.{read_any_nil}
 use Rattle.engine.specs.declared.shadow.Shadow.{Shadow}
 use Rattle.engine.specs.View.{stand_of, Took}
-use Rattle.engine.specs.BySlot.{flagged}
-use Rattle.engine.specs.Table.{unread, Lent}
+use Rattle.engine.specs.SlotSet.{flags}
+use Rattle.engine.specs.declared.slot_set.SlotSet.{SlotSet}
+use Rattle.engine.specs.BySlot.{flagged, by_slot}
+use Rattle.engine.specs.declared.by_slot.BySlot.{BySlot}
+use Rattle.engine.specs.Table.{has_shadow, unread, Lent}
 use Rattle.engine.specs.declared.row.Row.{Row as RowHeld}
+use Rattle.serial.proofs.Table.{none_is}
+use Rattle.engine.proofs.Members.{skips, flags_by_slot}
+use Rattle.engine.proofs.SlotSets.{flags_eight}
 use Rattle.engine.proofs.BySlots.{flag-at, flagged-at, flag_stands, flagged-length}
 
 -- a list, seen through a view of each element
@@ -32,22 +38,6 @@ module _ {X Y : Type 0} (f : X → Y) where
         ∙ ap (set (map f ys) i) (e ∙ ap g (sym (get_or-map f ys i d)))
         ∙ map_over_more g (map f xs) (map f ys) i x m inv (get_or_default (map f ys) i (f d) x l)
 
--- a loop over the slots that puts g of what it sees at each place
-module _ {X : Type 0} (g : X → X) (xs ys : List X) (i : ℕ) (inv : ys ≡ map g (take i xs) ++ drop i xs) where
-  pub places_more : (j : ℕ) (d : X) → j ≡ i → i < length xs → set ys j (g (get_or ys j d)) ≡ map g (take (i + 1) xs) ++ drop (i + 1) xs
-  places_more j d is low =
-      let a = ap length inv ∙ length-append (map g (take i xs)) (drop i xs) in
-      let b = length-map (take i xs) g in
-      let c = length-take-le i xs (omega arith) in
-      let e = length-drop i xs in
-      let l : i < length ys = omega (arith, a, b, c, e) in
-      rw is (map_over_more g xs ys i (get_or ys i d) low inv (get_or_default ys i d (get_or ys i d) l))
-
-  pub places_all : length xs ≤ i → ys ≡ map g xs
-  places_all past =
-      inv ∙ ap (λ q. map g q ++ drop i xs) (take_all i xs past) ∙ at_drop_all (λ q. map g xs ++ q) xs i past
-      ∙ append-nil (map g xs)
-
 -- an equal test finds the same
 module _ (p q : Stand → Bool) (same : (s : Stand) → p s ≡ q s) where
   better_same : (best c : Option Stand) → better p best c ≡ better q best c
@@ -60,6 +50,16 @@ module _ (p q : Stand → Bool) (same : (s : Stand) → p s ≡ q s) where
 
 pub furthest_any : (t : ℕ) (cs : Row) → furthest_of (unread []) t cs ≡ furthest_of any_shadow t cs
 furthest_any t cs = furthest_same (unread []) any_shadow (λ s. ap not (read_any_nil s.reads)) None (get_or cs t None ∷ cs)
+
+-- the shadows of these slots
+abbrev pub of_slots : Row → List ℕ → Row
+of_slots shadows us = map (λ u. get_or shadows u None) us
+
+-- only a shadow that is there is better
+pub furthest_there : (test : Stand → Bool) (shadows : Row) (us : List ℕ) (best : Option Stand) → furthest test best (of_slots shadows (filter (has_shadow shadows) us)) ≡ furthest test best (of_slots shadows us)
+furthest_there test shadows us best =
+    skips (λ b vs. furthest test b (of_slots shadows vs)) (λ b u. better test b (get_or shadows u None)) (λ b u vs. refl) (has_shadow shadows) (λ b. Unit {0}) (λ b u k h. tt)
+    (λ b u k h. ap (better test b) (none_is (get_or shadows u None) h)) us best tt
 
 abbrev pub view : List (Option Shadow) → Row
 view xs = map (option_map stand_of) xs
@@ -81,7 +81,22 @@ count_filtered [] = refl
 count_filtered (None ∷ xs) = count_filtered xs
 count_filtered (Some s ∷ xs) = ap suc (count_filtered xs)
 
+-- what is there, seen through a view
 module _ {X Y : Type 0} (f : X → Y) where
+  pub eight_seen : (there : SlotSet) (xs : List X) → length xs ≡ 8 → length (map (option_map f) (flagged (flags there) xs)) ≡ 8
+  eight_seen there xs l =
+      let e = flags_eight there in
+      simp length-map (flagged-length (flags there) xs (omega (arith, e, l)) ∙ e)
+
+  pub some_seen : (os : List (Option X)) → map (λ x. is_some x) os ≡ map (λ x. is_some x) (map (option_map f) os)
+  some_seen [] = refl
+  some_seen (None ∷ os) = ap (λ bs. false ∷ bs) (some_seen os)
+  some_seen (Some x ∷ os) = ap (λ bs. true ∷ bs) (some_seen os)
+
+  -- the slots that there is one for
+  pub slots_seen : (s : BySlot X) → length s.things ≡ 8 → map (λ x. is_some x) (by_slot s) ≡ map (λ u. is_some (get_or (map (option_map f) (by_slot s)) u None)) slots
+  slots_seen s l = some_seen (by_slot s) ∙ flags_by_slot (map (option_map f) (by_slot s)) (eight_seen s.there s.things l)
+
   pub some_there : (o : Option X) → is_some (option_map f o) ≡ is_some o
   some_there None = refl
   some_there (Some x) = refl
@@ -98,10 +113,6 @@ no_shadow = record {
   own = record { items = []; len = 0 };
 }
 
--- a row has as many places as flags
-pub row-length : (bs : List Bool) (xs : List Shadow) → length bs ≡ length xs → length (view (flagged bs xs)) ≡ length bs
-row-length bs xs l = simp length-map (flagged-length bs xs l)
-
 -- a row that has its leading shadow is spoiled just where the list leaves it none
 module _ (own : List WriteEntry) (v : ℕ) (shadows : Row) (led : is_some (get_or shadows v None) ≡ true) where
   kept_or_spoiled : (o : Option Stand) → is_some o ≡ true → is_some (kept own o) ≡ not (spoils own o)
@@ -116,6 +127,18 @@ module _ (own : List WriteEntry) (v : ℕ) (shadows : Row) (led : is_some (get_o
   left =
       ap is_some (get_or-map (kept own) shadows v None) ∙ kept_or_spoiled (get_or shadows v None) led
 
+  pub still_led : is_some (get_or (renewed own v shadows) v None) ≡ true
+  still_led =
+      cond_both (spoils own (get_or shadows v None)) _ (remaining own shadows) (λ r. is_some (get_or r v None) ≡ true)
+      (λ h. ap is_some (get_or-set_same (remaining own shadows) v (Some (unwrap_or (furthest_of any_shadow v (remaining own shadows)) start)) None (simp length-map low)))
+      (λ h. left ∙ ap not h)
+    where
+      low : v < length shadows
+      low =
+          ⊎_elim (λ (l : v < length shadows). l)
+          (λ (l : length shadows ≤ v). absurd (true≢false (sym led ∙ ap is_some (get_or_past shadows v None l))))
+          (cases_lt v (length shadows))
+
   pub renewed_spoiled : is_some (get_or (remaining own shadows) v None) ≡ false → set (remaining own shadows) v (Some (unwrap_or (furthest_of any_shadow v (remaining own shadows)) start)) ≡ renewed own v shadows
   renewed_spoiled gone =
       sym (cond-true (spoils own (get_or shadows v None)) _ _ (not-false (spoils own (get_or shadows v None)) (sym left ∙ gone)))
@@ -125,9 +148,15 @@ module _ (own : List WriteEntry) (v : ℕ) (shadows : Row) (led : is_some (get_o
       sym (cond-false (spoils own (get_or shadows v None)) _ _ (not-true (spoils own (get_or shadows v None)) (sym left ∙ stays)))
 
 -- a step of the shadow at a place of the row
-module _ (bs : List Bool) (xs : List Shadow) (u : ℕ) (l : length bs ≡ length xs) (there : is_some (get_or (view (flagged bs xs)) u None) ≡ true) where
+module _ (set_there : SlotSet) (xs : List Shadow) (u : ℕ) (long : length xs ≡ 8) (there : is_some (get_or (view (flagged (flags set_there) xs)) u None) ≡ true) where
+  abbrev bs : List Bool
+  bs = flags set_there
+
+  l : length bs ≡ length xs
+  l = let e = flags_eight set_there in omega (arith, e, long)
+
   abbrev Shadows : List Shadow → RowHeld
-  Shadows ys = record { shadows = record { there = bs; things = ys } }
+  Shadows ys = record { shadows = record { there = set_there; things = ys } }
 
   stands : get_or bs u false ≡ true
   stands = flag-at bs xs u l ∙ sym (some_mapped stand_of (flagged bs xs) u) ∙ there

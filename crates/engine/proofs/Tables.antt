@@ -1,9 +1,9 @@
 -- The rows and scripts of a table, and turns of the loops over them. Assumes nothing.
-use Rattle.std.proofs.Common.{◌≡◌, ℕ, zero, suc, ◌+◌, ◌<◌, ◌≤◌, ⊎_elim, Bool, true, false, List, [], ◌∷◌, ◌++◌, map, length, get_or, take, drop, set, is_some, Some, None, Option, sym, refl, ap, ◌∙◌, add-one, arith}
-use Rattle.std.specs.List.{find, range_with_len}
+use Rattle.std.proofs.Common.{◌≡◌, ℕ, zero, suc, ◌+◌, ◌<◌, ◌≤◌, ⊎_elim, Bool, true, false, List, [], ◌∷◌, map, length, get_or, set, is_some, Some, None, Option, sym, refl, ap, subst, ◌≢◌, ◌∙◌, add-one, arith}
+use Rattle.std.specs.List.{filter, find, range_with_len}
 use Rattle.std.specs.Option.{option_map}
 use Rattle.std.proofs.Math.ListN.{get_or-map}
-use Rattle.std.proofs.lemmas.List.{length-map, length-set, map-set, set-get_or, get_or_past, get_or-set_same, get_or-set_other}
+use Rattle.std.proofs.lemmas.List.{length-set, map-set, set-get_or, get_or_past, get_or-set_same, get_or-set_other}
 use Rattle.std.proofs.lemmas.Bool.{cond-true, cond-false, cases_lt, cases_eq, true≢false}
 use Rattle.pages.specs.declared.WriteEntry.{WriteEntry}
 use Rattle.script.specs.declared.Script.{Script}
@@ -13,7 +13,10 @@ use Rattle.serial.specs.Rules.{Engine, slots, no_shadows, with_shadow, first_ope
 use Rattle.serial.specs.Rules as rules
 use Rattle.serial.specs.Sound.{ClosedBare, OpenLed}
 use Rattle.serial.proofs.Table.{nothing_at, none_is}
+use Rattle.engine.specs.SlotSet.{flags}
 use Rattle.engine.specs.BySlot.{by_slot}
+use Rattle.engine.proofs.Members.{put_at, puts, skip_puts, eight_places}
+use Rattle.engine.proofs.Rows.{still_led}
 use Rattle.engine.specs.declared.by_slot.BySlot.{BySlot}
 use Rattle.engine.specs.declared.row.Row.{Row}
 use Rattle.engine.specs.declared.table.Table.{Table}
@@ -21,13 +24,20 @@ use Rattle.engine.specs.Table.{row_of, scripts_of, engine_of, with_rows, without
 
 -- what stands past the last row
 abbrev pub no_row : Row
-no_row = record { shadows = record { there = []; things = [] } }
+no_row = record { shadows = record { there = record { bits = 0 }; things = [] } }
 
 pub same_engine : {a b : ℕ} {s q : List (Option Steps)} {x y : List rules.Row} → a ≡ b → s ≡ q → x ≡ y → ◌≡◌ {A = Engine} (record { allowance = a; scripts = s; shadows = x }) (record { allowance = b; scripts = q; shadows = y })
 same_engine p q r = λ i. record { allowance = p i; scripts = q i; shadows = r i }
 
+no_row_none : row_of no_row ≡ []
+unfolding flags
+no_row_none = refl
+
+pub row_at : (rows : List Row) (t : ℕ) → get_or (map row_of rows) t [] ≡ row_of (get_or rows t no_row)
+row_at rows t = ap (get_or (map row_of rows) t) (sym no_row_none) ∙ get_or-map row_of rows t no_row
+
 pub same_row : (b : Table) (t : ℕ) → row_of (get_or b.rows t no_row) ≡ rules.row (engine_of b) t
-same_row b t = sym (get_or-map row_of b.rows t no_row)
+same_row b t = sym (row_at b.rows t)
 
 pub row-set : (b : Table) (t : ℕ) (x : Row) (y : List (Option Stand)) → row_of x ≡ y → engine_of (record { allowance = b.allowance; scripts = b.scripts; rows = set b.rows t x }) ≡ record { allowance = b.allowance; scripts = scripts_of b.scripts; shadows = set (map row_of b.rows) t y }
 row-set b t x y e = same_engine refl refl (map-set row_of b.rows t x ∙ ap (set (map row_of b.rows) t) e)
@@ -54,7 +64,7 @@ pub closed_by : (e : Engine) (t : ℕ) → without_column (without_slot e t) t �
 closed_by e t = same_engine refl refl (cleared-set t e.shadows)
 
 -- nothing stands where nothing was put
-set_gone : {X : Type 0} (xs : List (Option X)) (t : ℕ) → get_or (set xs t None) t None ≡ None
+pub set_gone : {X : Type 0} (xs : List (Option X)) (t : ℕ) → get_or (set xs t None) t None ≡ None
 set_gone [] t = refl
 set_gone (x ∷ xs) zero = refl
 set_gone (x ∷ xs) (suc t) = set_gone xs t
@@ -111,64 +121,51 @@ module _ (own : List WriteEntry) where
 
 -- a loop that renews each row, and takes away the shadow for t
 module _ (own : List WriteEntry) (t : ℕ) where
-  abbrev after : ℕ → rules.Row → rules.Row
+  abbrev pub after : ℕ → rules.Row → rules.Row
   after v r = rules.cleared t (renewed own v r)
 
-  abbrev all_after : ℕ → List rules.Row → List rules.Row
+  abbrev pub all_after : ℕ → List rules.Row → List rules.Row
   all_after v rows = map (rules.cleared t) (renew own v rows)
 
   after_bare : (v : ℕ) (r : rules.Row) → ((u : ℕ) → is_some (get_or r u None) ≡ false) → after v r ≡ r
   after_bare v r h = ap (rules.cleared t) (renewed_bare own v r h) ∙ cleared_same r t (none_is (get_or r t None) (h t))
 
-  renewed-turn : (v : ℕ) (xs : List rules.Row) (i : ℕ) → i < length xs → set (all_after v (take i xs) ++ drop i xs) i (after (v + i) (get_or (all_after v (take i xs) ++ drop i xs) i [])) ≡ all_after v (take (suc i) xs) ++ drop (suc i) xs
-  renewed-turn v [] i low = absurd (omega arith)
-  renewed-turn v (x ∷ xs) zero low = let e : v + 0 ≡ v = omega arith in ap (λ n. after n x ∷ xs) e
-  renewed-turn v (x ∷ xs) (suc i) low =
-      let e : v + suc i ≡ suc v + i = omega arith in
-      let ys = all_after (suc v) (take i xs) ++ drop i xs in
-      ap (λ n. after v x ∷ set ys i (after n (get_or ys i []))) e
-      ∙ ap (λ rs. after v x ∷ rs) (renewed-turn (suc v) xs i (omega arith))
+  -- a loop over the open slots renews all
+  pub renewed_at : (rows : List rules.Row) (e : Engine) → length rows ≡ 8 → ((v u : ℕ) → rules.is_open e v ≡ false → is_some (get_or (get_or rows v []) u None) ≡ false) → puts after [] rows (filter (rules.is_open e) slots) ≡ all_after 0 rows
+  renewed_at rows e long bare =
+      skip_puts after [] (rules.is_open e) rows slots (λ v h. after_bare v (get_or rows v []) (λ u. bare v u h))
+      ∙ subst (λ rs. puts after [] rs slots ≡ all_after 0 rs) (sym (eight_places rows [] long)) refl
 
-  renewed-skip : (v : ℕ) (xs : List rules.Row) (i : ℕ) → i < length xs → after (v + i) (get_or xs i []) ≡ get_or xs i [] → all_after v (take i xs) ++ drop i xs ≡ all_after v (take (suc i) xs) ++ drop (suc i) xs
-  renewed-skip v [] i low h = absurd (omega arith)
-  renewed-skip v (x ∷ xs) zero low h = let e : v + 0 ≡ v = omega arith in ap (λ q. q ∷ xs) (sym h ∙ ap (λ n. after n x) e)
-  renewed-skip v (x ∷ xs) (suc i) low h =
-      let e : v + suc i ≡ suc v + i = omega arith in
-      ap (λ rs. after v x ∷ rs) (renewed-skip (suc v) xs i (omega arith) (ap (λ n. after n (get_or xs i [])) (sym e) ∙ h))
+  -- an open slot has its leading shadow still
+  pub after_led : (v : ℕ) (r : rules.Row) → v ≢ t → is_some (get_or r v None) ≡ true → is_some (get_or (after v r) v None) ≡ true
+  after_led v r ne led =
+      ap is_some (get_or-set_other (renewed own v r) t v None None ne) ∙ still_led own v r led
 
-  module _ (xs : List Row) (i : ℕ) where
-    -- the first i rows are renewed
-    abbrev pub Renewed : List Row → Type 0
-    Renewed ys = map row_of ys ≡ all_after 0 (take i (map row_of xs)) ++ drop i (map row_of xs)
+  abbrev pub Led : Engine → List rules.Row → Type 0
+  Led e rows = (v : ℕ) → rules.is_open e v ≡ true → is_some (get_or (get_or rows v []) v None) ≡ true
 
-  row-here : (v : ℕ) (xs : List rules.Row) (i : ℕ) → i < length xs → get_or (all_after v (take i xs) ++ drop i xs) i [] ≡ get_or xs i []
-  row-here v [] i low = absurd (omega arith)
-  row-here v (x ∷ xs) zero low = refl
-  row-here v (x ∷ xs) (suc i) low = row-here (suc v) xs i (omega arith)
+  pub led_after : (e : Engine) → rules.is_open e t ≡ false → (u : ℕ) (rows : List rules.Row) → Led e rows → Led e (put_at after [] rows u)
+  led_after e shut u rows led v opens =
+      ⊎_elim
+      (λ (q : v ≡ u). rw q (here (rw q at opens) (rw q at (led v opens))))
+      (λ (q : v ≡ u → ⊥). ap (λ r. is_some (get_or r v None)) (get_or-set_other rows u v (after u (get_or rows u [])) [] q) ∙ led v opens)
+      (cases_eq v u)
+    where
+      here : rules.is_open e u ≡ true → is_some (get_or (get_or rows u []) u None) ≡ true → is_some (get_or (get_or (put_at after [] rows u) u []) u None) ≡ true
+      here o h =
+          ap (λ r. is_some (get_or r u None)) (get_or-set_same rows u (after u (get_or rows u [])) [] low)
+          ∙ after_led u (get_or rows u []) (λ q. true≢false (sym o ∙ ap (rules.is_open e) q ∙ shut)) h
+        where
+          low : u < length rows
+          low =
+              ⊎_elim (λ (l : u < length rows). l)
+              (λ (l : length rows ≤ u). absurd (true≢false (sym h ∙ ap (λ r. is_some (get_or r u None)) (get_or_past rows u [] l))))
+              (cases_lt u (length rows))
 
-  -- a row that is not renewed yet is as it was
-  pub row-waits : (xs ys : List Row) (i : ℕ) → i < length xs → Renewed xs i ys → row_of (get_or ys i no_row) ≡ get_or (map row_of xs) i []
-  row-waits xs ys i low inv =
-      let l : i < length (map row_of xs) = simp length-map low in
-      sym (get_or-map row_of ys i no_row) ∙ ap (λ rs. get_or rs i []) inv ∙ row-here 0 (map row_of xs) i l
-
-  pub renewed_more : (xs ys : List Row) (i : ℕ) (y : Row) → i < length xs → row_of y ≡ after i (row_of (get_or ys i no_row)) → Renewed xs i ys → Renewed xs (i + 1) (set ys i y)
-  renewed_more xs ys i y low e inv =
-      let l : i < length (map row_of xs) = simp length-map low in
-      let z : 0 + i ≡ i = omega arith in
+  pub row_after : (ys : List Row) (i : ℕ) (y : Row) → row_of y ≡ after i (row_of (get_or ys i no_row)) → map row_of (set ys i y) ≡ put_at after [] (map row_of ys) i
+  row_after ys i y e =
       map-set row_of ys i y
-      ∙ ap (set (map row_of ys) i) (e ∙ ap (after i) (sym (get_or-map row_of ys i no_row)))
-      ∙ ap (λ rs. set rs i (after i (get_or rs i []))) inv
-      ∙ ap (λ n. set (all_after 0 (take i (map row_of xs)) ++ drop i (map row_of xs)) i (after n (get_or (all_after 0 (take i (map row_of xs)) ++ drop i (map row_of xs)) i []))) (sym z)
-      ∙ renewed-turn 0 (map row_of xs) i l
-      ∙ ap (λ n. all_after 0 (take n (map row_of xs)) ++ drop n (map row_of xs)) (sym (add-one i))
-
-  -- a row that has no shadow is left as it is
-  pub renewed_same : (xs ys : List Row) (i : ℕ) → i < length xs → ((u : ℕ) → is_some (get_or (get_or (map row_of xs) i []) u None) ≡ false) → Renewed xs i ys → Renewed xs (i + 1) ys
-  renewed_same xs ys i low bare inv =
-      let l : i < length (map row_of xs) = simp length-map low in
-      inv ∙ renewed-skip 0 (map row_of xs) i l (after_bare (0 + i) (get_or (map row_of xs) i []) bare)
-      ∙ ap (λ n. all_after 0 (take n (map row_of xs)) ++ drop n (map row_of xs)) (sym (add-one i))
+      ∙ ap (set (map row_of ys) i) (e ∙ ap (after i) (sym (row_at ys i)))
 
 -- the lowest open slot, found among the slots
 from_here : (n m : ℕ) (xs : List (Option Steps)) (open_at : ℕ → Bool) → length xs ≡ m → ((k : ℕ) → k < m → open_at (n + k) ≡ is_some (get_or xs k None)) → find open_at (range_with_len n m) ≡ first_open n xs

@@ -1,5 +1,6 @@
 -- What some of the slots have, by slot. Assumes nothing.
 use Rattle.std.specs.Prelude.{Bool, cond, List, [], ◌∷◌, Some, None, Option}
+use Rattle.engine.specs.SlotSet.{flags}
 use Rattle.engine.specs.declared.by_slot.BySlot.{BySlot}
 
 module _ {T : Type 0} where
@@ -11,4 +12,4 @@ module _ {T : Type 0} where
 
   -- what each slot has, or none
   abbrev pub by_slot : BySlot T → List (Option T)
-  by_slot s = flagged s.there s.things
+  by_slot s = flagged (flags s.there) s.things

@@ -1,4 +1,5 @@
 pub mod View
+pub mod SlotSet
 pub mod BySlot
 pub mod Alone
 pub mod Table

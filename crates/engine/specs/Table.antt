@@ -1,5 +1,5 @@
 -- The table of shadows as the rules have it. Assumes nothing.
-use Rattle.std.specs.Prelude.{◌≡◌, ℕ, Bool, true, false, cond, not, List, map, is_some, Some, None, Ok, Err, Option, Result, ◌==◌, nat_lt, slice_index_or, slice_set}
+use Rattle.std.specs.Prelude.{◌≡◌, ℕ, Bool, true, false, cond, not, ◌&&◌, List, map, is_some, Some, None, Ok, Err, Option, Result, ◌==◌, nat_lt, slice_index_or, slice_set}
 use Rattle.std.specs.Option.{option_map}
 use Rattle.pages.specs.Pages.{fault_at}
 use Rattle.pages.specs.declared.StoreFault.{StoreFault}
@@ -10,7 +10,7 @@ use Rattle.script.specs.View.{steps_of}
 use Rattle.serial.specs.declared.fault.StepFault.{StepFault}
 use Rattle.serial.specs.Faults.{step_fault}
 use Rattle.serial.specs.Machine.{Steps, Stand, Taken, moved, off_pages, store_read, write_of, has_read_any}
-use Rattle.serial.specs.Rules.{Engine, no_shadows, with_shadow, before_step, after_step, cleared}
+use Rattle.serial.specs.Rules.{Engine, is_open, shadow, no_shadows, with_shadow, before_step, after_step, cleared}
 use Rattle.engine.specs.View.{stand_of}
 use Rattle.engine.specs.BySlot.{by_slot}
 use Rattle.engine.specs.declared.by_slot.BySlot.{BySlot}
@@ -50,6 +50,18 @@ without_column e t = with_rows e (map (cleared t) e.shadows)
 abbrev pub there_at : List (Option Stand) → Option ℕ → Option Stand
 there_at shadows None = None
 there_at shadows (Some u) = slice_index_or shadows u None
+
+-- whether a row has a shadow for a slot
+abbrev pub has_shadow : List (Option Stand) → ℕ → Bool
+has_shadow shadows u = is_some (slice_index_or shadows u None)
+
+-- an open slot but t
+abbrev pub other_open : Engine → ℕ → ℕ → Bool
+other_open e t u = not (u == t) && is_open e u
+
+-- and t has no shadow for it
+abbrev pub unguessed : Engine → ℕ → ℕ → Bool
+unguessed e t u = other_open e t u && not (is_some (shadow e t u))
 
 -- where a place is given, a shadow is at it
 abbrev pub IsThere : List (Option Stand) → Option ℕ → Type 0

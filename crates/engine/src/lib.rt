@@ -8,6 +8,7 @@ mod machine;
 mod row;
 mod shadow;
 mod slot;
+mod slot_set;
 mod table;
 
 pub use alone::{AloneFault, run_alone};

@@ -1,15 +1,17 @@
 // A row of the table: the shadows of one slot, by the slot that each is for.
-ghost use Rattle.std.specs.Prelude.{◌≡◌, true, is_some, Some, None, slice_index_or, slice_set};
+ghost use Rattle.std.specs.Prelude.{◌≡◌, true, map, is_some, Some, None, slice_index_or, slice_set};
 ghost use Rattle.std.specs.Option.{unwrap_or, option_map};
 ghost use Rattle.serial.specs.Machine.{start as started, takes};
-ghost use Rattle.serial.specs.Rules.{no_shadows, place_of, better as better_of, furthest_of, any_shadow, count as counted, kept, remaining, spoils, renewed};
-ghost use Rattle.engine.specs.View.{seen, Room};
-ghost use Rattle.engine.specs.Table.{row_of, unread, passes, there_at, IsThere, Lent};
+ghost use Rattle.serial.specs.Rules.{slots, no_shadows, place_of, better as better_of, furthest_of, any_shadow, count as counted, kept, remaining, spoils, renewed};
+ghost use Rattle.engine.specs.View.{seen, stand_of, Room};
+ghost use Rattle.engine.specs.SlotSet.{flags};
+ghost use Rattle.engine.specs.Table.{row_of, has_shadow, unread, passes, there_at, IsThere, Lent};
 
 use crate::by_slot::BySlot;
 use crate::machine::Machine;
 use crate::shadow::Shadow;
 use crate::slot::Slot;
+use crate::slot_set::SlotSet;
 use arithmetic::Arithmetic;
 use pages::{Reader, StoreFault, WriteEntry};
 use script::Step;
@@ -33,6 +35,21 @@ impl Row {
         ensures { option_map seen result ≡ slice_index_or (row_of self.now) u None }
     {
         self.shadows.get(u)
+    }
+
+    // The shadow for u, where it is known that there is one.
+    pub(crate) fn known(&self, u: Slot) -> &Shadow
+        requires there { is_some (slice_index_or (row_of self.now) u None) ≡ true }
+        ensures { Some (stand_of result.now) ≡ slice_index_or (row_of self.now) u None }
+    {
+        self.shadows.known(u)
+    }
+
+    // The slots that there is a shadow for.
+    pub(crate) fn slots(&self) -> SlotSet
+        ensures { flags result ≡ map (has_shadow (row_of self.now)) slots }
+    {
+        self.shadows.slots()
     }
 
     // The step of the shadow for u, 0 where there is none.
@@ -103,7 +120,7 @@ impl Row {
         // A `for`, tried as a `fold`: of `better` only what is at the place that it answers is known, and a fold's
         // proof asks for a function.
         let mut best = self.better(None, t, list);
-        for u in Slot::all() {
+        for u in self.slots().members() {
             best = self.better(best, u, list);
         }
         best
@@ -129,7 +146,7 @@ impl Row {
     fn drop_readers(&mut self, own: &[WriteEntry])
         ensures { row_of self.new ≡ remaining own.now (row_of self.old) }
     {
-        for u in Slot::all() {
+        for u in self.slots().members() {
             self.drop_reader(u, own);
         }
     }

@@ -1,7 +1,6 @@
 // The eight slots.
 ghost use Rattle.std.specs.Prelude.{◌≡◌, ℕ, ◌<◌, ◌≤◌, MatchResult};
 ghost use Rattle.serial.specs.declared.fault.CallFault.TheVariants.{NoSlot};
-ghost use Rattle.serial.specs.Rules.{slots};
 
 use serial::CallFault;
 use std::marker::Model;
@@ -26,22 +25,6 @@ impl Model for Slot {
 }
 
 impl Slot {
-    // All of them, in rising order.
-    pub(crate) fn all() -> [Slot; SLOTS]
-        ensures { result ≡ slots }
-    {
-        [
-            Slot { number: 0 },
-            Slot { number: 1 },
-            Slot { number: 2 },
-            Slot { number: 3 },
-            Slot { number: 4 },
-            Slot { number: 5 },
-            Slot { number: 6 },
-            Slot { number: 7 },
-        ]
-    }
-
     // Its place in an array of eight.
     pub(crate) fn index(self) -> usize
         ensures place { result ≡ self }

@@ -1,17 +1,19 @@
 // The table of shadows: a row for each slot, and the scripts of the open slots.
-ghost use Rattle.std.specs.Prelude.{◌≡◌, find, Some, None};
+ghost use Rattle.std.specs.Prelude.{◌≡◌, false, find, map, Some, None};
 ghost use Rattle.std.specs.Option.{option_map, unwrap_or};
 ghost use Rattle.script.specs.View.{steps_of};
 ghost use Rattle.serial.specs.Machine.{start as started};
 ghost use Rattle.serial.specs.Rules.{slots, fresh_engine, script_of, is_open, row as row_at, shadow as shadow_at, with_shadow, begun, closed, renew, committed};
 ghost use Rattle.serial.specs.Sound.{ClosedBare, OpenLed};
 ghost use Rattle.engine.specs.View.{seen, steps_seen};
+ghost use Rattle.engine.specs.SlotSet.{flags};
 ghost use Rattle.engine.specs.Table.{row_of, engine_of, with_allowance, with_rows, without_slot, without_column, there_at, IsThere};
 
 use crate::by_slot::BySlot;
 use crate::row::Row;
 use crate::shadow::Shadow;
 use crate::slot::{SLOTS, Slot};
+use crate::slot_set::SlotSet;
 use pages::WriteEntry;
 use script::{Script, decode};
 
@@ -64,11 +66,18 @@ impl Table {
         self.scripts.has(t)
     }
 
+    // The open slots.
+    fn open(&self) -> SlotSet
+        ensures { flags result ≡ map (is_open (engine_of self.now)) slots }
+    {
+        self.scripts.slots()
+    }
+
     // The lowest open slot.
     pub(crate) fn first_open(&self) -> Option<Slot>
         ensures { result ≡ find (is_open (engine_of self.now)) slots }
     {
-        Slot::all().iter().copied().find(|t| self.is_open(*t))
+        self.open().members().next()
     }
 
     fn row(&self, t: Slot) -> &Row
@@ -126,19 +135,18 @@ impl Table {
         self.clear_column(t);
     }
 
-    // Every row after a commit of slot t's list, and without its shadow for t. A closed slot has no shadow, and its row is not
-    // looked at.
+    // Every row after a commit of closed slot t's list, and without its shadow for t. A closed slot has no shadow, and its
+    // row is not looked at.
     fn renew_all(&mut self, t: Slot, own: &[WriteEntry])
+        requires shut { is_open (engine_of self.old) t ≡ false }
         requires bare { ClosedBare (engine_of self.old) }
         requires led { OpenLed (engine_of self.old) }
         ensures { engine_of self.new ≡ without_column (with_rows (engine_of self.old) (renew own.now 0 (engine_of self.old).shadows)) t }
     {
-        for v in Slot::all() {
-            if self.is_open(v) {
-                let row = &mut self.rows[v.index()];
-                row.renew(v, own);
-                row.take_away(t);
-            }
+        for v in self.open().members() {
+            let row = &mut self.rows[v.index()];
+            row.renew(v, own);
+            row.take_away(t);
         }
     }
 

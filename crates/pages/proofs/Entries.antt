@@ -1,6 +1,7 @@
 -- Laws of entries that name pages. Assumes nothing.
-use Rattle.std.proofs.Common.{◌≡◌, ℕ, zero, suc, ◌+◌, ◌<◌, ◌≤◌, true, cond, ◌&&◌, ltb, ◌≢◌, ◌⊎◌, List, length, get_or, slice_index, nat_lt, fold, [], ◌∷◌, take_all, add-one, take, drop, set, sym, refl, ap, ◌∙◌, inl, inr, ⊎_elim, zero-add, arith, get_or-set_other, get_or-set_same}
+use Rattle.std.proofs.Common.{◌≡◌, Bool, max, ℕ, zero, suc, ◌+◌, ◌<◌, ◌≤◌, true, cond, ◌&&◌, ltb, ◌≢◌, ◌⊎◌, List, length, get_or, slice_index, nat_lt, fold, [], ◌∷◌, take_all, add-one, take, drop, set, sym, refl, ap, ◌∙◌, inl, inr, ⊎_elim, zero-add, arith, get_or-set_other, get_or-set_same}
 use lib.Seq.{take-set-lt, drop-set-add}
+use Rattle.std.proofs.lemmas.Bool.Decides.{nat_tests}
 use Rattle.std.proofs.lemmas.List.{take_more}
 use Rattle.std.proofs.lemmas.List.Sums.{fold-append}
 use Rattle.std.proofs.lemmas.Bool.{and_parts, and_from, ltb-true, lt-ltb, eq-eqb, ne_eqb, cases_eq}
@@ -39,6 +40,26 @@ fold-all_below xs limit = ap (fold _ true) (sym (take_all (length xs) xs (omega 
         ap (fold _ true) (ap (λ k. take k xs) (sym (add-one n)) ∙ take_more xs n 0 (omega arith))
         ∙ fold-append _ true (take n xs) (get_or xs n 0 ∷ [])
         ∙ ap (λ b. nat_lt (get_or xs n 0) limit && b) (front n (omega arith))
+
+-- the same by the highest number
+module _ (limit : ℕ) where
+  abbrev Below : Bool → List ℕ → Bool
+  Below b xs = fold (λ below n. nat_lt n limit && below) b xs
+
+  highest_or : (n highest : ℕ) → nat_lt (max n highest) limit ≡ (nat_lt n limit && nat_lt highest limit)
+  highest_or n highest = grind (arith, nat_tests)
+
+  highest_of_one : (n : ℕ) → nat_lt (max n 0) limit ≡ (nat_lt n limit && true)
+  highest_of_one n = grind (arith, nat_tests)
+
+  highest_below : (xs : List ℕ) (h : ℕ) → nat_lt (fold (λ highest n. max n highest) h xs) limit ≡ Below (nat_lt h limit) xs
+  highest_below [] h = refl
+  highest_below (x ∷ xs) h = highest_below xs (max x h) ∙ ap (λ b. Below b xs) (highest_or x h)
+
+  pub highest-all_below : (xs : List ℕ) → 0 < length xs → nat_lt (fold (λ highest n. max n highest) 0 xs) limit ≡ all_below (slice_index xs) limit (length xs)
+  highest-all_below [] l = absurd (omega arith)
+  highest-all_below (x ∷ xs) l =
+      highest_below xs (max x 0) ∙ ap (λ b. Below b xs) (highest_of_one x) ∙ fold-all_below (x ∷ xs) limit
 
 module _ (page word : ℕ → ℕ) where
   -- what no entry names stays

@@ -25,10 +25,11 @@ pub struct Log<'a> {
 fn are_below(numbers: &[u32], limit: u32) -> bool
     ensures { result ≡ all_below (slice_index numbers.now) limit (length numbers.now) }
 {
-    // All are looked at, also past one that is not: without a way out the loop goes many at a time.
-    numbers
+    // By the highest, for which the processor looks at many at a time. Of no numbers it is 0, which says nothing.
+    let highest = numbers
         .iter()
-        .fold(true, |below, &number| (number < limit) & below)
+        .fold(0, |highest, &number| number.max(highest));
+    numbers.is_empty() || highest < limit
 }
 
 // Carries entries into base words, in order.
@@ -37,8 +38,9 @@ fn carry(base: &mut [u32], pages: &[u32], words: &[u32])
     requires low { EachIndex pages.now (λ i. slice_index pages.now i < length base.old) }
     ensures { base.new ≡ carried (slice_index pages.now) (slice_index words.now) 0 base.old (length pages.now) }
 {
-    for (&page, &word) in pages.iter().zip(words) {
-        base[page as usize] = word;
+    // A `zip` would look for the end of both at each turn.
+    for (i, &page) in pages.iter().enumerate() {
+        base[page as usize] = words[i];
     }
 }
 

@@ -1,14 +1,16 @@
 // Accounting: a slot whose leading shadow conflicts with another's gets a shadow for it.
-ghost use Rattle.std.specs.Prelude.{◌≡◌};
+ghost use Rattle.std.specs.Prelude.{◌≡◌, true, map};
 ghost use Rattle.std.specs.Option.{option_map};
 ghost use Rattle.serial.specs.Machine.{has_read, has_written as stands_on};
-ghost use Rattle.serial.specs.Rules.{slots, row as row_at, own_of, reads_of, shadow as shadow_at, lead_writes, clean, furthest_of, has_room, account as accounted, read_conflict, account_read, account_reads, write_conflict, account_write, account_writes, before_step, after_step};
+ghost use Rattle.serial.specs.Rules.{slots, row as row_at, own_of, reads_of, shadow as shadow_at, lead_writes, clean, furthest_of, has_room, account as accounted, account_read, account_reads, write_conflict, account_write, account_writes, before_step, after_step};
 ghost use Rattle.engine.specs.View.{seen};
-ghost use Rattle.engine.specs.Table.{engine_of, there_at, IsThere};
+ghost use Rattle.engine.specs.SlotSet.{flags};
+ghost use Rattle.engine.specs.Table.{unguessed, other_open, engine_of, there_at, IsThere};
 
 use super::Table;
 use crate::shadow::{Shadow, has_written};
 use crate::slot::Slot;
+use crate::slot_set::SlotSet;
 use pages::WriteEntry;
 
 // What a shadow that may not be there has written.
@@ -64,17 +66,28 @@ impl Table {
         }
     }
 
-    // Whether a store read of the page by t's leading shadow conflicts with slot u.
-    fn read_conflict(&self, t: Slot, page: u32, u: Slot) -> bool
-        ensures { result ≡ read_conflict (engine_of self.now) t page u }
+    // The open slots but t.
+    fn others(&self, t: Slot) -> SlotSet
+        ensures { flags result ≡ map (other_open (engine_of self.now) t) slots }
     {
-        self.is_open(u) && self.shadow(t, u).is_none() && u != t && self.lead_has_written(u, page)
+        let mut others = self.open();
+        others.remove(t);
+        others
     }
 
+    // Those of them that t has no shadow for.
+    fn unguessed(&self, t: Slot) -> SlotSet
+        ensures { flags result ≡ map (unguessed (engine_of self.now) t) slots }
+    {
+        self.others(t).minus(self.row(t).slots())
+    }
+
+    // Accounts for slot u, which t has no shadow for, where a store read of the page by t's leading shadow conflicts with it.
     fn account_read(&mut self, t: Slot, page: u32, u: Slot)
+        requires unguessed { unguessed (engine_of self.old) t u ≡ true }
         ensures { engine_of self.new ≡ account_read (engine_of self.old) t page u }
     {
-        if self.read_conflict(t, page, u) {
+        if self.lead_has_written(u, page) {
             self.account(t, u);
         }
     }
@@ -83,23 +96,24 @@ impl Table {
     pub(crate) fn account_reads(&mut self, t: Slot, page: u32)
         ensures { engine_of self.new ≡ account_reads (engine_of self.old) t page slots }
     {
-        for u in Slot::all() {
+        // One set for all: to account for a slot takes no other out of it.
+        for u in self.unguessed(t).members() {
             self.account_read(t, page, u);
         }
     }
 
-    // Whether a write of the page by t's leading shadow conflicts with slot v, which has not guessed it. Reads and writes have
-    // calls of their own, down to this one: their rules differ, and at a write v forks for t.
+    // Whether a write of the page by t's leading shadow conflicts with another open slot v, which has not guessed it. Reads and
+    // writes have calls of their own, down to this one: their rules differ, and at a write v forks for t.
     fn write_conflict(&self, t: Slot, page: u32, v: Slot) -> bool
+        requires other { other_open (engine_of self.now) t v ≡ true }
         ensures { result ≡ write_conflict (engine_of self.now) t page v }
     {
-        self.is_open(v)
-            && v != t
-            && self.shadow_has_read(v, v, page)
+        self.shadow_has_read(v, v, page)
             && (self.shadow(v, t).is_none() || self.shadow_has_read(v, t, page))
     }
 
     fn account_write(&mut self, t: Slot, page: u32, v: Slot)
+        requires other { other_open (engine_of self.old) t v ≡ true }
         ensures { engine_of self.new ≡ account_write (engine_of self.old) t page v }
     {
         if self.write_conflict(t, page, v) {
@@ -111,7 +125,7 @@ impl Table {
     pub(crate) fn account_writes(&mut self, t: Slot, page: u32)
         ensures { engine_of self.new ≡ account_writes (engine_of self.old) t page slots }
     {
-        for v in Slot::all() {
+        for v in self.others(t).members() {
             self.account_write(t, page, v);
         }
     }

@@ -44,7 +44,7 @@ impl Table {
         requires open { is_some (script_of (engine_of self.now) t) ≡ true }
         ensures { steps_of result.now ≡ script_at (engine_of self.now) t }
     {
-        self.script(t).unwrap()
+        self.scripts.known(t)
     }
 
     // A shadow that is there.
@@ -52,7 +52,7 @@ impl Table {
         requires there { is_some (shadow_at (engine_of self.now) t u) ≡ true }
         ensures { stand_of result.now ≡ stand_at (engine_of self.now) t u }
     {
-        self.shadow(t, u).unwrap()
+        self.row(t).known(u)
     }
 
     // Where slot t's leading shadow stands.
