@@ -16,9 +16,10 @@ use crate::plan::Plan;
 use crate::random::{encode, step, Random, COMBINE, READ, SET, WRITE};
 use std::fmt::Write;
 use std::hint::black_box;
-use std::time::Instant;
+use std::time::{Duration, Instant};
 
 const ROUNDS: usize = 1001;
+const WARM_UP: Duration = Duration::from_secs(2);
 /// Copies of the ready state in a round. Few enough for all of them to stay in a cache, and enough that reading the
 /// clock does not count.
 const COPIES: usize = 16;
@@ -296,10 +297,20 @@ fn report(group: &str, title: &str, x: &str, cases: &[Case], rows: &mut String) 
     Ok(())
 }
 
+/// A processor at rest has a low clock rate, so no time counts until it has worked for a while.
+fn warm_up() -> Result<(), String> {
+    let begun = Instant::now();
+    while begun.elapsed() < WARM_UP {
+        measure(&turn_cases())?;
+    }
+    Ok(())
+}
+
 pub fn run(csv: Option<&str>) -> Result<(), String> {
     let mut rows = "group,label,x,proved_ns,plain_ns\n".to_string();
     let rows = &mut rows;
     println!("Nanoseconds per call, the median of {ROUNDS} rounds that alternate between the engines.");
+    warm_up()?;
     report("turn", "Turns without conflict, 64 pages, flat", "open slots", &turn_cases(), rows)?;
     let (conflicts, mixes): (Vec<Case>, Vec<Mix>) = [1, 2, 4, 8].map(conflict_case).into_iter().unzip();
     let title = "Heavy conflict: eight slots on four pages, all calls of the mix";
