@@ -26,7 +26,6 @@ loop-v-preserved c =
     let t = c.args.t in
     let p = c.args.page in
     let e = engine_of c.loop-v.self in
-    let m = engine_of c.account_write.new.self in
     let us = members c.next.new.self.left in
     let first = subst (Each (λ v. other_open e t v ≡ true)) c.in-Some.ensures.steps c.loop-v.invariant.left in
     record {
