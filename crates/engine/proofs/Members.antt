@@ -63,7 +63,7 @@ module _ (f g : ℕ → Bool) where
 
 pub members_from : (s : SlotSet) (p : ℕ → Bool) → flags s ≡ map p slots → members s ≡ filter p slots
 unfolding flags members
-members_from s p h = same_filter (is_member s.bits) p slots h
+members_from s p h = same_filter (is_member s) p slots h
 
 pub flags_by_slot : {X : Type 0} (xs : List (Option X)) → length xs ≡ 8 → map (λ x. is_some x) xs ≡ map (λ u. is_some (get_or xs u None)) slots
 flags_by_slot xs l = ap (map (λ x. is_some x)) (eight_places xs None l)

@@ -1,14 +1,14 @@
 -- What stands in a row, and turns of the loops over it. Assumes nothing.
-use Rattle.std.proofs.Common.{◌≡◌, ⊎_elim, ℕ, suc, ◌+◌, ◌<◌, ◌≤◌, Bool, true, false, cond, not, List, [], ◌∷◌, ◌++◌, map, length, get_or, take, drop, set, is_some, Some, None, Option, Result, unwrap_or, sym, refl, ap, ◌∙◌, subst, arith}
+use Rattle.std.proofs.Common.{◌≡◌, ⊎_elim, ℕ, suc, ◌+◌, ◌<◌, Bool, true, false, cond, not, List, [], ◌∷◌, ◌++◌, map, length, get_or, take, drop, set, is_some, Some, None, Option, Result, unwrap_or, sym, refl, ap, ◌∙◌, subst, arith}
 use Rattle.std.specs.List.{filter}
 use Rattle.std.specs.Option.{option_map}
 use Rattle.std.proofs.Math.ListN.{get_or-map}
-use Rattle.std.proofs.lemmas.List.{length-map, map-set, get_or_default, set-get_or, get_or_past, get_or-set_same}
+use Rattle.std.proofs.lemmas.List.{length-map, map-set, get_or_default, set-get_or, get_or-set_same}
 use Rattle.std.proofs.lemmas.List.Edits.{map_over_more}
 use Rattle.pages.specs.declared.StoreFault.{StoreFault}
 use Rattle.script.specs.declared.Step.{Step}
 use Rattle.pages.specs.declared.WriteEntry.{WriteEntry}
-use Rattle.std.proofs.lemmas.Bool.{cases_Bool, cases_lt, cond_both, cond-true, cond-false, not-true, not-false, true≢false}
+use Rattle.std.proofs.lemmas.Bool.{cases_Bool, cond_both, cond-true, cond-false, not-true, not-false, true≢false}
 use Rattle.serial.specs.Machine.{Meaning, Stand, start, has_read_any, Taken, moved, off_pages, takes}
 use Rattle.serial.specs.Rules.{Row, slots, better, furthest, furthest_of, any_shadow, count, kept, spoils, remaining, renewed}
 use Rattle.serial.proofs.Conflicts.{read_any_nil}
@@ -20,7 +20,7 @@ use Rattle.engine.specs.BySlot.{flagged, by_slot}
 use Rattle.engine.specs.declared.by_slot.BySlot.{BySlot}
 use Rattle.engine.specs.Table.{has_shadow, unread, Lent}
 use Rattle.engine.specs.declared.row.Row.{Row as RowHeld}
-use Rattle.serial.proofs.Table.{none_is}
+use Rattle.serial.proofs.Table.{none_is, some_is, there-within}
 use Rattle.engine.proofs.Members.{skips, flags_by_slot}
 use Rattle.engine.proofs.SlotSets.{flags_eight}
 use Rattle.engine.proofs.BySlots.{flag-at, flagged-at, flag_stands, flagged-length}
@@ -127,17 +127,12 @@ module _ (own : List WriteEntry) (v : ℕ) (shadows : Row) (led : is_some (get_o
   left =
       ap is_some (get_or-map (kept own) shadows v None) ∙ kept_or_spoiled (get_or shadows v None) led
 
+  -- its renewal has its leading shadow still
   pub still_led : is_some (get_or (renewed own v shadows) v None) ≡ true
   still_led =
       cond_both (spoils own (get_or shadows v None)) _ (remaining own shadows) (λ r. is_some (get_or r v None) ≡ true)
-      (λ h. ap is_some (get_or-set_same (remaining own shadows) v (Some (unwrap_or (furthest_of any_shadow v (remaining own shadows)) start)) None (simp length-map low)))
+      (λ h. ap is_some (get_or-set_same (remaining own shadows) v (Some (unwrap_or (furthest_of any_shadow v (remaining own shadows)) start)) None (simp length-map (there-within shadows v (some_is (get_or shadows v None) led).0 (some_is (get_or shadows v None) led).1))))
       (λ h. left ∙ ap not h)
-    where
-      low : v < length shadows
-      low =
-          ⊎_elim (λ (l : v < length shadows). l)
-          (λ (l : length shadows ≤ v). absurd (true≢false (sym led ∙ ap is_some (get_or_past shadows v None l))))
-          (cases_lt v (length shadows))
 
   pub renewed_spoiled : is_some (get_or (remaining own shadows) v None) ≡ false → set (remaining own shadows) v (Some (unwrap_or (furthest_of any_shadow v (remaining own shadows)) start)) ≡ renewed own v shadows
   renewed_spoiled gone =

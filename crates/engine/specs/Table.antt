@@ -10,7 +10,7 @@ use Rattle.script.specs.View.{steps_of}
 use Rattle.serial.specs.declared.fault.StepFault.{StepFault}
 use Rattle.serial.specs.Faults.{step_fault}
 use Rattle.serial.specs.Machine.{Steps, Stand, Taken, moved, off_pages, store_read, write_of, has_read_any}
-use Rattle.serial.specs.Rules.{Engine, is_open, shadow, no_shadows, with_shadow, before_step, after_step, cleared}
+use Rattle.serial.specs.Rules.{Engine, is_open, row, no_shadows, with_shadow, before_step, after_step, cleared}
 use Rattle.engine.specs.View.{stand_of}
 use Rattle.engine.specs.BySlot.{by_slot}
 use Rattle.engine.specs.declared.by_slot.BySlot.{BySlot}
@@ -55,18 +55,18 @@ there_at shadows (Some u) = slice_index_or shadows u None
 abbrev pub has_shadow : List (Option Stand) → ℕ → Bool
 has_shadow shadows u = is_some (slice_index_or shadows u None)
 
--- an open slot but t
+-- another open slot than t
 abbrev pub other_open : Engine → ℕ → ℕ → Bool
 other_open e t u = not (u == t) && is_open e u
 
--- and t has no shadow for it
+-- another open slot, that t has no shadow for
 abbrev pub unguessed : Engine → ℕ → ℕ → Bool
-unguessed e t u = other_open e t u && not (is_some (shadow e t u))
+unguessed e t u = other_open e t u && not (has_shadow (row e t) u)
 
 -- where a place is given, a shadow is at it
 abbrev pub IsThere : List (Option Stand) → Option ℕ → Type 0
 IsThere shadows None = Unit {0}
-IsThere shadows (Some u) = is_some (slice_index_or shadows u None) ≡ true
+IsThere shadows (Some u) = has_shadow shadows u ≡ true
 
 -- whether a shadow has read no page of the list
 abbrev pub unread : List WriteEntry → Stand → Bool

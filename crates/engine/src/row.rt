@@ -1,5 +1,5 @@
 // A row of the table: the shadows of one slot, by the slot that each is for.
-ghost use Rattle.std.specs.Prelude.{◌≡◌, true, map, is_some, Some, None, slice_index_or, slice_set};
+ghost use Rattle.std.specs.Prelude.{◌≡◌, true, map, Some, None, slice_index_or, slice_set};
 ghost use Rattle.std.specs.Option.{unwrap_or, option_map};
 ghost use Rattle.serial.specs.Machine.{start as started, takes};
 ghost use Rattle.serial.specs.Rules.{slots, no_shadows, place_of, better as better_of, furthest_of, any_shadow, count as counted, kept, remaining, spoils, renewed};
@@ -39,7 +39,7 @@ impl Row {
 
     // The shadow for u, where it is known that there is one.
     pub(crate) fn known(&self, u: Slot) -> &Shadow
-        requires there { is_some (slice_index_or (row_of self.now) u None) ≡ true }
+        requires there { has_shadow (row_of self.now) u ≡ true }
         ensures { Some (stand_of result.now) ≡ slice_index_or (row_of self.now) u None }
     {
         self.shadows.known(u)
@@ -162,7 +162,7 @@ impl Row {
 
     // Slot v's row after a commit of the list: without those that have read a page of it, and with a leading shadow still.
     pub(crate) fn renew(&mut self, v: Slot, own: &[WriteEntry])
-        requires led { is_some (slice_index_or (row_of self.old) v None) ≡ true }
+        requires led { has_shadow (row_of self.old) v ≡ true }
         ensures { row_of self.new ≡ renewed own.now v (row_of self.old) }
     {
         self.drop_readers(own);
@@ -178,7 +178,7 @@ impl Row {
         step: &Step,
         machine: &Machine<R, A>,
     ) -> Result<(), StoreFault>
-        requires there { is_some (slice_index_or (row_of self.old) u None) ≡ true }
+        requires there { has_shadow (row_of self.old) u ≡ true }
         requires room { Room (unwrap_or (slice_index_or (row_of self.old) u None) started) }
         ensures { Lent self.old u (takes (A.Arithmetic.meaning machine.now.arithmetic.now) (R.Reader.pages machine.now.reader.now) step.now (unwrap_or (slice_index_or (row_of self.old) u None) started)) result self.new }
     {

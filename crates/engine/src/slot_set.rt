@@ -42,7 +42,7 @@ impl SlotSet {
 
     // Its members that are not members of the other.
     pub(crate) fn minus(self, other: SlotSet) -> SlotSet
-        ensures { flags result ≡ map (λ u. is_member self.bits u && not (is_member other.bits u)) slots }
+        ensures { flags result ≡ map (λ u. is_member self u && not (is_member other u)) slots }
     {
         SlotSet {
             bits: self.bits & !other.bits,

@@ -67,7 +67,7 @@ impl Table {
     }
 
     // The open slots.
-    fn open(&self) -> SlotSet
+    fn open_slots(&self) -> SlotSet
         ensures { flags result ≡ map (is_open (engine_of self.now)) slots }
     {
         self.scripts.slots()
@@ -77,7 +77,7 @@ impl Table {
     pub(crate) fn first_open(&self) -> Option<Slot>
         ensures { result ≡ find (is_open (engine_of self.now)) slots }
     {
-        self.open().members().next()
+        self.open_slots().members().next()
     }
 
     fn row(&self, t: Slot) -> &Row
@@ -143,7 +143,7 @@ impl Table {
         requires led { OpenLed (engine_of self.old) }
         ensures { engine_of self.new ≡ without_column (with_rows (engine_of self.old) (renew own.now 0 (engine_of self.old).shadows)) t }
     {
-        for v in self.open().members() {
+        for v in self.open_slots().members() {
             let row = &mut self.rows[v.index()];
             row.renew(v, own);
             row.take_away(t);

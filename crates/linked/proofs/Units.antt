@@ -1,5 +1,5 @@
 -- Calls that tell no value where they are accepted. Assumes nothing.
-use Rattle.std.proofs.Common.{◌≡◌, ℕ, List, [], Ok, Err, Result, refl, sym, ap, ◌∙◌}
+use Rattle.std.proofs.Common.{◌≡◌, [], Ok, Err, Result, refl, sym, ap, ◌∙◌}
 use Rattle.serial.specs.declared.fault.CallFault.{CallFault}
 use Rattle.serial.specs.declared.fault.Accepted.{Accepted}
 use Rattle.serial.specs.Rules.{State, Done}

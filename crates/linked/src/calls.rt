@@ -75,8 +75,9 @@ fn turn_with<R: Reader>(engine: &mut Handle, slot: u32, other: u32, reader: &R, 
     told_turn(engine.engine().turn(slot, other, reader, &arithmetic))
 }
 
-// A turn with a log in the host's words. Each store has a call of its own, so that neither makes room for the other.
-fn turn_on_log(engine: &mut Handle, slot: u32, other: u32, words: &mut [u32], flags: bool) -> Told
+// A turn with a log in the host's words. Each store has a call of its own: in one for both, each turn would clear the room
+// of both.
+fn turn_log(engine: &mut Handle, slot: u32, other: u32, words: &mut [u32], flags: bool) -> Told
     ensures rule { done_told (turns (arithmetic_named flags) (state_of engine.old.engine (pages_in true words.old)) slot other) ≡ (state_of engine.new.engine (pages_in true words.old), result) }
     ensures words { words.new ≡ words.old }
     ensures declined { AsItWas result.refusal (engine.new.engine.table ≡ engine.old.engine.table) }
@@ -86,7 +87,7 @@ fn turn_on_log(engine: &mut Handle, slot: u32, other: u32, words: &mut [u32], fl
 }
 
 // And with a flat store there.
-fn turn_on_flat(engine: &mut Handle, slot: u32, other: u32, words: &mut [u32], flags: bool) -> Told
+fn turn_flat(engine: &mut Handle, slot: u32, other: u32, words: &mut [u32], flags: bool) -> Told
     ensures rule { done_told (turns (arithmetic_named flags) (state_of engine.old.engine (pages_in false words.old)) slot other) ≡ (state_of engine.new.engine (pages_in false words.old), result) }
     ensures words { words.new ≡ words.old }
     ensures declined { AsItWas result.refusal (engine.new.engine.table ≡ engine.old.engine.table) }
@@ -110,9 +111,9 @@ pub extern "C" fn gorsepick_turn(
     ensures place { engine.new.at ≡ engine.old.at }
 {
     if log {
-        turn_on_log(engine, slot, other, words, flags)
+        turn_log(engine, slot, other, words, flags)
     } else {
-        turn_on_flat(engine, slot, other, words, flags)
+        turn_flat(engine, slot, other, words, flags)
     }
 }
 

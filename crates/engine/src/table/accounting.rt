@@ -66,20 +66,20 @@ impl Table {
         }
     }
 
-    // The open slots but t.
-    fn others(&self, t: Slot) -> SlotSet
+    // The other open slots than t.
+    fn other_open(&self, t: Slot) -> SlotSet
         ensures { flags result ≡ map (other_open (engine_of self.now) t) slots }
     {
-        let mut others = self.open();
-        others.remove(t);
-        others
+        let mut slots = self.open_slots();
+        slots.remove(t);
+        slots
     }
 
     // Those of them that t has no shadow for.
     fn unguessed(&self, t: Slot) -> SlotSet
         ensures { flags result ≡ map (unguessed (engine_of self.now) t) slots }
     {
-        self.others(t).minus(self.row(t).slots())
+        self.other_open(t).minus(self.row(t).slots())
     }
 
     // Accounts for slot u, which t has no shadow for, where a store read of the page by t's leading shadow conflicts with it.
@@ -125,7 +125,7 @@ impl Table {
     pub(crate) fn account_writes(&mut self, t: Slot, page: u32)
         ensures { engine_of self.new ≡ account_writes (engine_of self.old) t page slots }
     {
-        for v in self.others(t).members() {
+        for v in self.other_open(t).members() {
             self.account_write(t, page, v);
         }
     }

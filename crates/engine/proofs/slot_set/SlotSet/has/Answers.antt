@@ -11,4 +11,4 @@ returns c =
     let p = c.index.ensures.place in
     let w = c.index.ensures.within in
     ap (λ x. x == 1) (shr_and_one c.args.self.bits c.index.result ∙ ap (bit_at c.args.self.bits) p)
-    ∙ flag_of (is_member c.args.self.bits) c.args.u (omega (arith, p, w))
+    ∙ flag_of (is_member c.args.self) c.args.u (omega (arith, p, w))

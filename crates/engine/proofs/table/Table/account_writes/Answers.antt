@@ -15,7 +15,7 @@ account_write-requires c =
 pub loop-v-init : goal.loop-v-init
 loop-v-init c =
     let e = engine_of c.args.self.now in
-    let some = ap (λ (m : Members). members m.left) c.into_iter-v-iterator.ensures.into_iter_gives ∙ c.members-v-items.ensures ∙ members_from c.others.result (other_open e c.args.t) c.others.ensures in
+    let some = ap (λ (m : Members). members m.left) c.into_iter-v-iterator.ensures.into_iter_gives ∙ c.members-v-items.ensures ∙ members_from c.other_open.result (other_open e c.args.t) c.other_open.ensures in
     record {
       so_far = ap (account_writes e c.args.t c.args.page) some ∙ writes_at c.args.t c.args.page e;
       left = subst (Each (λ v. other_open e c.args.t v ≡ true)) (sym some) (all_pass (other_open e c.args.t) slots);

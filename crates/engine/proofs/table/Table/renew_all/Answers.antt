@@ -21,7 +21,7 @@ pub loop-v-init : goal.loop-v-init
 loop-v-init c =
     let e = engine_of c.args.self.now in
     let rows = map row_of c.args.self.now.rows in
-    let some = ap (λ (m : Members). members m.left) c.into_iter-v-iterator.ensures.into_iter_gives ∙ c.members-v-items.ensures ∙ members_from c.open.result (is_open e) c.open.ensures in
+    let some = ap (λ (m : Members). members m.left) c.into_iter-v-iterator.ensures.into_iter_gives ∙ c.members-v-items.ensures ∙ members_from c.open_slots.result (is_open e) c.open_slots.ensures in
     record {
       rows =
           ap (puts (after c.args.own.now c.args.t) [] rows) some

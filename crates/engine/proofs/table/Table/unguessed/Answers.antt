@@ -8,4 +8,4 @@ pub returns : goal.returns
 returns c =
     let e = engine_of c.args.self.now in
     c.minus.ensures
-    ∙ minus_from c.others.result c.slots.result (other_open e c.args.t) (has_shadow (row e c.args.t)) c.others.ensures (rw c.row.ensures at c.slots.ensures)
+    ∙ minus_from c.other_open.result c.slots.result (other_open e c.args.t) (has_shadow (row e c.args.t)) c.other_open.ensures (rw c.row.ensures at c.slots.ensures)
