@@ -3,7 +3,7 @@ use Rattle.std.proofs.Common.{◌≡◌, ℕ, ◌≤◌, leb, Some, Ok, ap, ◌�
 use Rattle.std.proofs.lemmas.Bool.{cond-true, le-leb}
 use Rattle.serial.specs.Machine.{Steps, Stand}
 use Rattle.serial.specs.Rules.{Engine, script_of, shadow}
-use Rattle.engine.specs.Questions.{of_shadow, of_open, asked}
+use Rattle.serial.specs.Questions.{of_shadow, of_open, asked}
 
 -- a question about a shadow that is there is answered
 pub answered : {X : Type 0} (e : Engine) (t u : ℕ) (f : Steps → Stand → X) (sc : Steps) (s : Stand) → t ≤ 7 → u ≤ 7 → script_of e t ≡ Some sc → shadow e t u ≡ Some s → asked e t u f ≡ Ok (f sc s)

@@ -5,5 +5,4 @@ pub mod Alone
 pub mod Table
 pub mod Calls
 pub mod Booking
-pub mod Questions
 pub mod Named

@@ -4,7 +4,7 @@ use Rattle.std.specs.Option.{unwrap_or}
 use Rattle.serial.specs.declared.fault.CallFault.{CallFault}
 use Rattle.serial.specs.Machine.{Steps, Stand, start}
 use Rattle.serial.specs.Rules.{Engine, script_of, shadow}
-use Rattle.engine.specs.Questions.{asked}
+use Rattle.serial.specs.Questions.{asked}
 
 -- an open slot's script, and a shadow that is there
 abbrev pub script_at : Engine → ℕ → Steps

@@ -1,7 +1,7 @@
 // The two questions. They take the handle as the calls do, since memory that only a host knows is not shared with it.
 ghost use Rattle.std.specs.Prelude.{◌≡◌};
 ghost use Rattle.engine.specs.Table.{engine_of};
-ghost use Rattle.engine.specs.Questions.{stand_told, entry_told};
+ghost use Rattle.serial.specs.Questions.{stand_told, entry_told};
 ghost use Rattle.linked.specs.Told.{stand_told_by, entry_told_by};
 
 use crate::handle::Handle;

@@ -325,7 +325,7 @@ module _ (ar : Meaning) (pages : List ℕ) (e : Engine) (i : Inv ar pages no_exe
   }
 
 -- an abort is a commit of nothing
-kept_nil : (o : Option Stand) → kept [] o ≡ o
+pub kept_nil : (o : Option Stand) → kept [] o ≡ o
 kept_nil None = refl
 kept_nil (Some s) = kept-unread [] s (read_any_nil s.reads)
 

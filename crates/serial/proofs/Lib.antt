@@ -8,6 +8,12 @@ pub mod Commits
 pub mod Calls
 pub mod Booking
 pub mod Sound
+pub mod Tests
+pub mod Furthest
+pub mod Relations
 pub mod Words
+pub mod Missing
+pub mod Refused
 pub mod Outcomes
+pub mod BothWays
 pub mod Histories

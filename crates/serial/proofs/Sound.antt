@@ -228,10 +228,10 @@ pub record Stays (e e' : Engine) : Type 0 where
   pub leads : (w : ℕ) → shadow e' w w ≡ shadow e w w
   pub scripts : e'.scripts ≡ e.scripts
 
-stays_same : (e : Engine) → Holds e → Stays e e
+pub stays_same : (e : Engine) → Holds e → Stays e e
 stays_same e o = record { ok = o; leads = λ w. refl; scripts = refl }
 
-stays_then : (e e₁ e₂ : Engine) → Stays e e₁ → Stays e₁ e₂ → Stays e e₂
+pub stays_then : (e e₁ e₂ : Engine) → Stays e e₁ → Stays e₁ e₂ → Stays e e₂
 stays_then e e₁ e₂ a b = record { ok = b.ok; leads = λ w. b.leads w ∙ a.leads w; scripts = b.scripts ∙ a.scripts }
 
 accounted_stays : (e : Engine) → Holds e → (v u : ℕ) → u ≢ v → is_open e v ≡ true → is_open e u ≡ true → Stays e (account e v u)

@@ -22,6 +22,14 @@ pub some_or_none : {X : Type 0} (o : Option X) → ((x : X) × (o ≡ Some x)) �
 some_or_none None = inr refl
 some_or_none (Some x) = inl (x, refl)
 
+-- a place of the table, or another one
+pub here_or_not : (v w t u : ℕ) → ((v ≡ t) × (w ≡ u)) ⊎ (v ≡ t → w ≡ u → ⊥)
+here_or_not v w t u =
+    ⊎_elim
+    (λ (q : v ≡ t). ⊎_elim (λ (p : w ≡ u). inl (q, p)) (λ (p : w ≡ u → ⊥). inr (λ _ z. p z)) (cases_eq w u))
+    (λ (q : v ≡ t → ⊥). inr (λ z _. q z))
+    (cases_eq v t)
+
 -- where nothing stands at any place
 pub nothing_at : {X : Type 0} (n u : ℕ) → get_or {A = Option X} (replicate n None) u None ≡ None
 nothing_at zero u = refl

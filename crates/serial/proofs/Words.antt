@@ -1,205 +1,228 @@
--- The rules satisfy what is said of them in words. Assumes nothing.
-use Rattle.std.proofs.Common.{◌≡◌, ℕ, zero, suc, ◌+◌, ◌<◌, ◌≤◌, Bool, true, false, not, ◌&&◌, ◌||◌, eqb, ltb, leb, ◌≢◌, ◌⊎◌, List, [], ◌∷◌, length, get_or, is_some, Some, None, Ok, Err, Option, Result, unwrap_or, sym, refl, ap, ◌∙◌, subst, inl, inr, ⊎_elim, arith}
+-- The rules do what is said of them in words. Assumes nothing.
+use Rattle.std.proofs.Common.{◌≡◌, ℕ, zero, suc, ◌<◌, ◌≤◌, Bool, true, false, not, ◌&&◌, ◌||◌, eqb, ltb, leb, ◌≢◌, ◌⊎◌, List, [], ◌∷◌, length, get_or, is_some, Some, None, Ok, Err, Option, Result, unwrap_or, sym, refl, ap, ◌∙◌, subst, inl, inr, ⊎_elim, arith}
 use Rattle.std.specs.List.{slice_get}
-use Rattle.std.proofs.Math.Bool.{and-false}
-use Rattle.std.proofs.Math.ListN.{get_or-map}
-use Rattle.std.proofs.lemmas.Bool.{cases_Bool, cases_eq, cases_lt, cond-true, cond-false, cond_both, and_parts, and_from, or_cases, or_left, or_right, le-leb, ltb-true, lt-ltb, le-ltb, or_from, ltb-false, eqb-true, eqb-false, eq-eqb, not-true, not-false, not_from_true, not_from_false, true≢false, both_ways}
+use Rattle.std.proofs.lemmas.Bool.{cases_Bool, cases_eq, cond-true, cond-false, cond_both, and_parts, or_cases, or_left, or_right, lt-ltb, or_from, le-ltb, eqb-true, eqb-false, eq-eqb, ne_eqb, le-leb, not-true, not-false, not_from_false, false_from_ne_true, true≢false}
 use Rattle.pages.specs.declared.WriteEntry.{WriteEntry}
 use Rattle.script.specs.Script.{decoded}
 use Rattle.script.specs.declared.ScriptFault.{ScriptFault}
 use Rattle.serial.specs.declared.fault.CallFault.{CallFault}
-use Rattle.serial.specs.declared.fault.Turned.TheVariants.{Moved}
 use Rattle.serial.specs.declared.fault.Standing.{Standing}
 use Rattle.serial.specs.declared.fault.Standing.TheVariants.{AtEnd, Halted, Ready}
-use Rattle.serial.specs.declared.fault.Accepted.TheVariants.{Took}
 use Rattle.serial.specs.Machine.{Meaning, Steps, Stand, start, Taken, moved, off_pages, store_read, write_of, has_read, has_written, has_read_any}
 use Rattle.serial.specs.Alone.{next}
-use Rattle.serial.specs.Rules.{Row, Engine, State, Done, slots, script_of, is_open, row, shadow, with_shadow, reads_of, own_of, lead_writes, ahead, better, furthest, furthest_of, any_shadow, clean, count, has_room, account, read_conflict, account_read, account_reads, write_conflict, account_write, account_writes, before_step, after_step, lead_moves, shadow_moves, standing, in_range, first_open, allow_closed, begin_with, turn_step, turn_standing, turn_shadow, turn_open, kept, remaining, committed, first_off, commit_puts, commit_open, abort_open, Call, set_allowance, begin, turn, commit, abort, does}
-use Rattle.serial.specs.Words.{Furthest, PicksFurthest, unread, CommitsSo, AccountsInWords, TurnsSo, CommitsInWords, TurnsInWords, DeclinedChangesNothing}
-use Rattle.serial.proofs.Table.{none_is_some, none_is, there-within, shadow-within, shadow_put, shadow_put_place, shadow_put_row, count_set, kept_was, kept-unread}
-use Rattle.serial.proofs.Turns.{open_within, open_kept, moves-scripts}
-use Rattle.serial.proofs.Commits.{none_of, none_for, others_kept, lead_stays, lead_renewed, script-there, script_other}
-use Rattle.serial.proofs.Booking.{commit-leaves}
-use Rattle.serial.proofs.Sound.{ok_from, Holds, reads_stay, writes_stay, before_stays, put_ok, next_fits}
+use Rattle.serial.specs.Rules.{Row, Engine, State, Done, slots, script_of, is_open, row, shadow, with_shadow, reads_of, own_of, lead_writes, furthest_of, any_shadow, clean, count, has_room, account, read_conflict, account_read, account_reads, write_conflict, account_write, account_writes, before_step, after_step, lead_moves, shadow_moves, standing, in_range, first_open, allow_closed, begun, begin_with, turn_step, turn_standing, turn_shadow, turn_open, kept, remaining, closed, committed, first_off, commit_puts, commit_open, abort_open, Call, set_allowance, begin, turn, commit, abort, does}
+use Rattle.serial.specs.Sound.{SoundEngine}
+use Rattle.serial.specs.Words.{Furthest, FurthestOrStart, SetsShadow, AccountsFor, SlotBySlot, DueBeforeRead, DueAfterWrite, LeadMoves, ShadowMoves, Closes, unread, Commits, Aborts, Opens, AccountsInWords, AccountedFor, TurnsChangeOnly, DeclinedChangesNothing}
+use Rattle.serial.proofs.Table.{none_is_some, none_is, some_or_none, Sized, shadow-within, shadow_put, shadow_put_place, shadow_put_row, sized_put, count_set, kept_was, kept-unread}
+use Rattle.serial.proofs.Turns.{open_within, open_kept}
+use Rattle.serial.proofs.Commits.{none_of, none_for, others_kept, lead_stays, lead_renewed, lead_none, committed-sized, script-there, script_other, kept_nil, abort_is}
+use Rattle.serial.proofs.Conflicts.{read_any_nil}
+use Rattle.serial.proofs.Calls.{begun-so}
+use Rattle.serial.proofs.Sound.{ok_from, Holds, Stays, stays_same, stays_then, reads_stay, writes_stay, before_stays, put_ok, next_fits}
+use Rattle.serial.proofs.Furthest.{picks_furthest, remaining-furthest, copied}
+use Rattle.serial.proofs.Relations.{read_due, due_read, write_due, due_write, no_read_due, no_write_due}
 
--- places in the order in which they count: the leading one is looked at first, then all in slot order
-module _ (test : Stand → Bool) where
-  -- the best so far of some candidates: `pos` is where it was found, and candidates from `from` on are still to come
-  record Best (all : Row) (k : ℕ) (pos : ℕ) (s : Stand) : Type 0 where
-    at : get_or all pos None ≡ Some s
-    passes : test s ≡ true
-    seen : pos < k
-    beats : (w : ℕ) (y : Stand) → w < k → get_or all w None ≡ Some y → test y ≡ true → (y.step < s.step) ⊎ ((y.step ≡ s.step) × (pos ≤ w))
+-- a shadow put in its place
+places : (e : Engine) → Sized e → (t u : ℕ) → t < 8 → u < 8 → (s : Stand) → SetsShadow e t u s (with_shadow e t u (Some s))
+places e z t u t_in u_in s =
+    let after = sized_put e z t u t_in u_in (Some s) in
+    record {
+      named = shadow_put e z t u t_in u_in (Some s);
+      besides = λ v w d. ⊎_elim
+          (λ (q : v ≡ t). subst (λ m. shadow (with_shadow e t u (Some s)) m w ≡ shadow e m w) (sym q) (shadow_put_place e z t u t_in u_in (Some s) w (d q)))
+          (λ (q : v ≡ t → ⊥). shadow_put_row e z t u t_in u_in (Some s) v w q)
+          (cases_eq v t);
+      scripts = refl;
+      allowance = refl;
+      eight = (after.scripts, after.rows, after.places);
+    }
 
-  abbrev SoFar : Row → ℕ → Option Stand → Type 0
-  SoFar all k None = (w : ℕ) (y : Stand) → w < k → get_or all w None ≡ Some y → test y ≡ false
-  SoFar all k (Some s) = (pos : ℕ) × Best all k pos s
+-- accounting
+accounts : (e : Engine) → Holds e → (t u : ℕ) → is_open e t ≡ true → is_open e u ≡ true → AccountsFor e t u (account e t u)
+accounts e o t u t_open u_open =
+    let copy = unwrap_or (furthest_of (clean e u) t (row e t)) start in
+    record {
+      room = λ h.
+          let fits : has_room e t u ≡ true = ⊎_elim
+          (λ (a : is_some (shadow e t u) ≡ true). or_left (is_some (shadow e t u)) (ltb (count (row e t)) e.allowance) a)
+          (λ (a : count (row e t) < e.allowance). or_right (is_some (shadow e t u)) (ltb (count (row e t)) e.allowance) (lt-ltb (count (row e t)) e.allowance a))
+          h in (
+            copy,
+            copied (clean e u) t (row e t),
+            subst (SetsShadow e t u copy) (sym (cond-true (has_room e t u) (with_shadow e t u (Some copy)) e fits)) (places e o.sized t u (open_within e o.sized t t_open) (open_within e o.sized u u_open) copy),
+          );
+      no_room = λ lacks full. cond-false (has_room e t u) (with_shadow e t u (Some copy)) e (or_from (is_some (shadow e t u)) (ltb (count (row e t)) e.allowance) (ap is_some lacks) (le-ltb (count (row e t)) e.allowance full));
+    }
 
-  -- one candidate more
-  more : (all : Row) (k : ℕ) (best : Option Stand) → SoFar all k best → SoFar all (suc k) (better test best (get_or all k None))
-  more all k best so = by (get_or all k None) refl
-    where
-      last_or : (w : ℕ) → w < suc k → (w ≡ k) ⊎ (w < k)
-      last_or w l = ⊎_elim (λ e. inl e) (λ (n : w ≡ k → ⊥). inr (omega arith)) (cases_eq w k)
+pub accounts_in_words : AccountsInWords
+accounts_in_words e t u sound t_open u_open = accounts e (ok_from e sound) t u t_open u_open
 
-      keeps_none : get_or all k None ≡ None → (b : Option Stand) → SoFar all k b → SoFar all (suc k) b
-      keeps_none q None h = λ w y l e. ⊎_elim (λ (z : w ≡ k). none_is_some y (sym q ∙ ap (λ m. get_or all m None) (sym z) ∙ e)) (λ (z : w < k). h w y z e) (last_or w l)
-      keeps_none q (Some s) h = (
-        h.0,
-        record {
-          at = h.1.at;
-          passes = h.1.passes;
-          seen = let l = h.1.seen in omega arith;
-          beats = λ w y l e t. ⊎_elim (λ (z : w ≡ k). none_is_some y (sym q ∙ ap (λ m. get_or all m None) (sym z) ∙ e)) (λ (z : w < k). h.1.beats w y z e t) (last_or w l);
-        },
-      )
+-- accounting before a read, slot by slot: what the rule has made of the first n slots
+module _ (t p : ℕ) where
+  abbrev read_stage : Engine → ℕ → Engine
+  read_stage e zero = e
+  read_stage e (suc n) = account_read (read_stage e n) t p n
 
-      fails : (x : Stand) → get_or all k None ≡ Some x → test x ≡ false → (b : Option Stand) → SoFar all k b → SoFar all (suc k) b
-      fails x q f None h = λ w y l e. ⊎_elim (λ (z : w ≡ k). let same : x ≡ y = let m : Some x ≡ Some y = sym q ∙ ap (λ m. get_or all m None) (sym z) ∙ e in cc in ap test (sym same) ∙ f) (λ (z : w < k). h w y z e) (last_or w l)
-      fails x q f (Some s) h = (
-        h.0,
-        record {
-          at = h.1.at;
-          passes = h.1.passes;
-          seen = let l = h.1.seen in omega arith;
-          beats = λ w y l e t. ⊎_elim (λ (z : w ≡ k). let same : x ≡ y = let m : Some x ≡ Some y = sym q ∙ ap (λ m. get_or all m None) (sym z) ∙ e in cc in absurd (both_ways (test x) f (ap test same ∙ t))) (λ (z : w < k). h.1.beats w y z e t) (last_or w l);
-        },
-      )
+  read_stays : (e : Engine) → Holds e → is_open e t ≡ true → (n : ℕ) → Stays e (read_stage e n)
+  read_stays e o t_open zero = stays_same e o
+  read_stays e o t_open (suc n) =
+      let x = read_stays e o t_open n in
+      stays_then e (read_stage e n) _ x (reads_stay (n ∷ []) (read_stage e n) t p x.ok (open_kept e (read_stage e n) t x.scripts t_open))
 
-      takes_it : (x : Stand) → get_or all k None ≡ Some x → test x ≡ true → (b : Option Stand) → ahead x b ≡ true → SoFar all k b → SoFar all (suc k) (Some x)
-      takes_it x q t None a h = (
-        k,
-        record {
-          at = q;
-          passes = t;
-          seen = omega arith;
-          beats = λ w y l e p. ⊎_elim (λ (z : w ≡ k). let same : x ≡ y = let m : Some x ≡ Some y = sym q ∙ ap (λ m. get_or all m None) (sym z) ∙ e in cc in inr (ap (λ v. v.step) (sym same), omega arith)) (λ (z : w < k). absurd (both_ways (test y) (h w y z e) p)) (last_or w l);
-        },
-      )
-      takes_it x q t (Some s) a h =
-          let up : s.step < x.step = ltb-true s.step x.step a in (
-            k,
-            record {
-              at = q;
-              passes = t;
-              seen = omega arith;
-              beats = λ w y l e p. ⊎_elim
-                  (λ (z : w ≡ k). let same : x ≡ y = let m : Some x ≡ Some y = sym q ∙ ap (λ m. get_or all m None) (sym z) ∙ e in cc in inr (ap (λ v. v.step) (sym same), omega arith))
-                  (λ (z : w < k). ⊎_elim (λ (c : y.step < s.step). inl (omega arith)) (λ (c : (y.step ≡ s.step) × (h.0 ≤ w)). let d = c.0 in inl (omega arith)) (h.1.beats w y z e p))
-                  (last_or w l);
-            },
-          )
+  slots_read : (e : Engine) → Holds e → is_open e t ≡ true → SlotBySlot (DueBeforeRead t (Some p)) (λ a u b. AccountsFor a t u b) e (account_reads e t p slots)
+  slots_read e o t_open = record {
+    stage = read_stage e;
+    first = refl;
+    last = refl;
+    due = λ u l d.
+        let x = read_stays e o t_open u in
+        let now = read_stage e u in
+        subst (AccountsFor now t u) (sym (cond-true (read_conflict now t p u) (account now t u) now (due_read now t p u d))) (accounts now x.ok t u (open_kept e now t x.scripts t_open) d.opened);
+    spared = λ u l n.
+        let now = read_stage e u in
+        cond-false (read_conflict now t p u) (account now t u) now (false_from_ne_true (read_conflict now t p u) (λ h. n (read_due now t p u h)));
+  }
 
-      stays_it : (x : Stand) → get_or all k None ≡ Some x → (b : Option Stand) → ahead x b ≡ false → SoFar all k b → SoFar all (suc k) b
-      stays_it x q None a h = absurd (true≢false a)
-      stays_it x q (Some s) a h =
-          let low : x.step ≤ s.step = ltb-false s.step x.step a in
-          let seen = h.1.seen in (
-            h.0,
-            record {
-              at = h.1.at;
-              passes = h.1.passes;
-              seen = omega arith;
-              beats = λ w y l e p. ⊎_elim
-                  (λ (z : w ≡ k).
-                  let same : x ≡ y = let m : Some x ≡ Some y = sym q ∙ ap (λ m. get_or all m None) (sym z) ∙ e in cc in
-                  let level : x.step ≡ y.step = ap (λ v. v.step) same in
-                  ⊎_elim (λ (c : y.step < s.step). inl c) (λ (c : s.step ≤ y.step). inr (omega arith, omega arith)) (cases_lt y.step s.step))
-                  (λ (z : w < k). h.1.beats w y z e p)
-                  (last_or w l);
-            },
-          )
+  -- and after a write
+  abbrev write_stage : Engine → ℕ → Engine
+  write_stage e zero = e
+  write_stage e (suc n) = account_write (write_stage e n) t p n
 
-      by : (c : Option Stand) → get_or all k None ≡ c → SoFar all (suc k) (better test best c)
-      by None q = keeps_none q best so
-      by (Some x) q =
-          ⊎_elim
-          (λ (t : test x ≡ true).
-          ⊎_elim
-          (λ (a : ahead x best ≡ true). subst (SoFar all (suc k)) (sym (cond-true (test x && ahead x best) (Some x) best (and_from (test x) (ahead x best) t a))) (takes_it x q t best a so))
-          (λ (a : ahead x best ≡ false). subst (SoFar all (suc k)) (sym (cond-false (test x && ahead x best) (Some x) best (ap (λ b. test x && b) a ∙ and-false (test x)))) (stays_it x q best a so))
-          (cases_Bool (ahead x best)))
-          (λ (t : test x ≡ false). subst (SoFar all (suc k)) (sym (cond-false (test x && ahead x best) (Some x) best (ap (λ b. b && ahead x best) t))) (fails x q t best so))
-          (cases_Bool (test x))
+  write_stays : (e : Engine) → Holds e → is_open e t ≡ true → (n : ℕ) → Stays e (write_stage e n)
+  write_stays e o t_open zero = stays_same e o
+  write_stays e o t_open (suc n) =
+      let x = write_stays e o t_open n in
+      stays_then e (write_stage e n) _ x (writes_stay (n ∷ []) (write_stage e n) t p x.ok (open_kept e (write_stage e n) t x.scripts t_open))
 
-  -- all candidates: cs are those from k on
-  all_seen : (all cs : Row) (k : ℕ) (best : Option Stand) → ((i : ℕ) → get_or cs i None ≡ get_or all (k + i) None) → SoFar all k best → SoFar all (k + length cs) (furthest test best cs)
-  all_seen all [] k best at so = subst (λ n. SoFar all n best) (let e : k ≡ k + 0 = omega arith in e) so
-  all_seen all (c ∷ cs) k best at so =
-      let first : c ≡ get_or all k None = at 0 ∙ ap (λ n. get_or all n None) (let e : k + 0 ≡ k = omega arith in e) in
-      let next_so = subst (λ o. SoFar all (suc k) (better test best o)) (sym first) (more all k best so) in
-      let e : suc k + length cs ≡ k + suc (length cs) = omega arith in
-      subst (λ n. SoFar all n (furthest test (better test best c) cs)) e
-      (all_seen all cs (suc k) (better test best c) (λ i. at (suc i) ∙ ap (λ n. get_or all n None) (let z : k + suc i ≡ suc k + i = omega arith in z)) next_so)
+  slots_written : (e : Engine) → Holds e → is_open e t ≡ true → SlotBySlot (DueAfterWrite t (Some p)) (λ a v b. AccountsFor a v t b) e (account_writes e t p slots)
+  slots_written e o t_open = record {
+    stage = write_stage e;
+    first = refl;
+    last = refl;
+    due = λ v l d.
+        let x = write_stays e o t_open v in
+        let now = write_stage e v in
+        subst (AccountsFor now v t) (sym (cond-true (write_conflict now t p v) (account now v t) now (due_write now t p v d))) (accounts now x.ok v t d.opened (open_kept e now t x.scripts t_open));
+    spared = λ v l n.
+        let now = write_stage e v in
+        cond-false (write_conflict now t p v) (account now v t) now (false_from_ne_true (write_conflict now t p v) (λ h. n (write_due now t p v h)));
+  }
 
-  pub furthest_so : (t : ℕ) (cs : Row) → Furthest test t cs (furthest_of test t cs)
-  furthest_so t cs = told (furthest_of test t cs) (all_seen (get_or cs t None ∷ cs) (get_or cs t None ∷ cs) 0 None (λ i. ap (λ n. get_or (get_or cs t None ∷ cs) n None) (let e : i ≡ 0 + i = omega arith in e)) (λ w y l e. absurd (omega arith)))
-    where
-      within : (w : ℕ) (y : Stand) → get_or cs w None ≡ Some y → suc w < 0 + length (get_or cs t None ∷ cs)
-      within w y h = let l = there-within cs w y h in omega arith
+before_slots : (e : Engine) (t : ℕ) (read : Option ℕ) → Holds e → is_open e t ≡ true → SlotBySlot (DueBeforeRead t read) (λ a u b. AccountsFor a t u b) e (before_step e t read)
+before_slots e t None o t_open = record { stage = λ n. e; first = refl; last = refl; due = λ u l d. absurd (no_read_due t e u d); spared = λ u l n. refl }
+before_slots e t (Some p) o t_open = slots_read t p e o t_open
 
-      told : (o : Option Stand) → SoFar (get_or cs t None ∷ cs) (0 + length (get_or cs t None ∷ cs)) o → Furthest test t cs o
-      told None so = λ w y h. so (suc w) y (within w y h) h
-      told (Some s) so = by so.0 so.1
-        where
-          by : (pos : ℕ) → Best (get_or cs t None ∷ cs) (0 + length (get_or cs t None ∷ cs)) pos s → Furthest test t cs (Some s)
-          by zero b = (t, b.at, b.passes, λ w y h p. ⊎_elim (λ c. inl c) (λ (c : (y.step ≡ s.step) × (0 ≤ suc w)). inr (c.0, inl refl)) (b.beats (suc w) y (within w y h) h p))
-          by (suc u) b = (
-            u,
-            b.at,
-            b.passes,
-            λ w y h p.
-                ⊎_elim
-                (λ (q : w ≡ t).
-                ⊎_elim
-                (λ c. inl c)
-                (λ (c : (y.step ≡ s.step) × (suc u ≤ 0)). let z = c.1 in absurd (omega arith))
-                (b.beats 0 y (omega arith) (ap (λ m. get_or cs m None) (sym q) ∙ h) p))
-                (λ (q : w ≡ t → ⊥). ⊎_elim (λ c. inl c) (λ (c : (y.step ≡ s.step) × (suc u ≤ suc w)). let z = c.1 in inr (c.0, inr (q, omega arith))) (b.beats (suc w) y (within w y h) h p))
-                (cases_eq w t),
-          )
+after_slots : (e : Engine) (t : ℕ) (write : Option ℕ) → Holds e → is_open e t ≡ true → SlotBySlot (DueAfterWrite t write) (λ a v b. AccountsFor a v t b) e (after_step e t write)
+after_slots e t None o t_open = record { stage = λ n. e; first = refl; last = refl; due = λ v l d. absurd (no_write_due t e v d); spared = λ v l n. refl }
+after_slots e t (Some p) o t_open = slots_written t p e o t_open
 
-pub picks_furthest : PicksFurthest
-picks_furthest test t shadows = furthest_so test t shadows
+-- the engine in which a leading shadow has taken its step and no slot has accounted for it yet
+module _ (ar : Meaning) (st : State) (o : Holds st.engine) (t : ℕ) (sc : Steps) (s to : Stand) (script : script_of st.engine t ≡ Some sc) (lead : shadow st.engine t t ≡ Some s) (step : next ar sc st.pages s ≡ Some (moved to)) where
+  abbrev read_before : Option ℕ
+  read_before = store_read (slice_get sc s.step) s
 
--- the furthest of what remains is the furthest that has read nothing on the list
-remaining-furthest : (own : List WriteEntry) (v : ℕ) (cs : Row) (o : Option Stand) → Furthest any_shadow v (remaining own cs) o → Furthest (unread own) v cs o
-remaining-furthest own v cs None h = λ w y e.
-    ⊎_elim
-    (λ (r : has_read_any y.reads own ≡ true). not_from_true (has_read_any y.reads own) r)
-    (λ (r : has_read_any y.reads own ≡ false). absurd (true≢false (h w y (get_or-map (kept own) cs w None ∙ ap (kept own) e ∙ kept-unread own y r))))
-    (cases_Bool (has_read_any y.reads own))
-remaining-furthest own v cs (Some s) h =
-    let was = kept_was own (get_or cs h.0 None) s (sym (get_or-map (kept own) cs h.0 None) ∙ h.1) in
-    (h.0, was.0, not_from_false (has_read_any s.reads own) was.1, λ w y e p. h.3 w y (get_or-map (kept own) cs w None ∙ ap (kept own) e ∙ kept-unread own y (not-true (has_read_any y.reads own) p)) refl)
+  abbrev written_then : Option ℕ
+  written_then = write_of (slice_get sc s.step) s
 
-commits_so : (e : Engine) → Holds e → (t : ℕ) → t < 8 → (own : List WriteEntry) → CommitsSo e t own (committed e t own)
+  abbrev ready : Engine
+  ready = before_step st.engine t read_before
+
+  abbrev stepped : Engine
+  stepped = with_shadow ready t t (Some to)
+
+  lead_open : is_open st.engine t ≡ true
+  lead_open = ap is_some script
+
+  lead_in : t < 8
+  lead_in = open_within st.engine o.sized t lead_open
+
+  ready_stays : Stays st.engine ready
+  ready_stays = before_stays st.engine t read_before o lead_open
+
+  script_then : script_of ready t ≡ Some sc
+  script_then = ap (λ xs. get_or xs t None) ready_stays.scripts ∙ script
+
+  stepped_ok : Holds stepped
+  stepped_ok =
+      let b = ready_stays in
+      let fits = next_fits ar sc st.pages s to (o.scripts t sc script).1 step (o.shadows t t sc s script lead) in
+      put_ok ready b.ok t t lead_in lead_in sc script_then (ap is_some script_then) to fits (let few = b.ok.few t in omega (arith, count_set (row ready t) t s to (b.leads t ∙ lead)))
+
+  pub lead_so : LeadMoves st.engine t read_before written_then to (lead_moves st.engine t sc s to)
+  lead_so = record {
+    accounted = ready;
+    stepped = stepped;
+    before = before_slots st.engine t read_before o lead_open;
+    step = places ready ready_stays.ok.sized t t lead_in lead_in to;
+    after = after_slots stepped t written_then stepped_ok (ap is_some script_then);
+  }
+
+pub moves_so : (ar : Meaning) (st : State) → Holds st.engine → (t u : ℕ) (sc : Steps) (s to : Stand) → script_of st.engine t ≡ Some sc → shadow st.engine t u ≡ Some s → next ar sc st.pages s ≡ Some (moved to) → ShadowMoves st.engine t u sc s to (shadow_moves st.engine t u sc s to)
+moves_so ar st o t u sc s to script h step =
+    cond_both (eqb u t) (lead_moves st.engine t sc s to) (with_shadow st.engine t u (Some to)) (ShadowMoves st.engine t u sc s to)
+    (λ q. let same = eqb-true u t q in record { leading = λ z. lead_so ar st o t sc s to script (ap (shadow st.engine t) (sym same) ∙ h) step; other = λ z. absurd (z same) })
+    (λ q. let in_both = shadow-within st.engine o.sized t u s h in record { leading = λ z. absurd (eqb-false u t q z); other = λ z. places st.engine o.sized t u in_both.0 in_both.1 to })
+
+-- a commit of any list
+closes_so : (e : Engine) → Holds e → (t : ℕ) → t < 8 → (own : List WriteEntry) → Closes e t (committed e t own)
+closes_so e o t t_in own =
+    let after = committed-sized e o.sized t t_in own in
+    record {
+      script = script-there e o.sized t t_in own;
+      scripts = script_other e o.sized t t_in own;
+      bare = none_of e o.sized t t_in own;
+      none_for = λ v. ⊎_elim (λ (q : v ≡ t). ap (λ m. shadow (committed e t own) m t) q ∙ none_of e o.sized t t_in own t) (λ (q : v ≡ t → ⊥). none_for e o.sized t t_in own v q) (cases_eq v t);
+      allowance = refl;
+      eight = (after.scripts, after.rows, after.places);
+    }
+
+pub commits_so : (e : Engine) → Holds e → (t : ℕ) → t < 8 → (own : List WriteEntry) → Commits e t own (committed e t own)
 commits_so e o t t_in own = record {
-  closes = (script-there e o.sized t t_in own, none_of e o.sized t t_in own);
-  none_for = λ v. ⊎_elim (λ (q : v ≡ t). ap (λ m. shadow (committed e t own) m t) q ∙ none_of e o.sized t t_in own t) (λ (q : v ≡ t → ⊥). none_for e o.sized t t_in own v q) (cases_eq v t);
-  scripts = script_other e o.sized t t_in own;
-  keeps = λ v u s a b d h r. others_kept e o.sized t t_in own v u a b d ∙ ap (kept own) h ∙ kept-unread own s (not-true (has_read_any s.reads own) r);
-  only_keeps = λ v u s a d h. ⊎_elim
-      (λ (q : u ≡ t). none_is_some s (sym (none_for e o.sized t t_in own v a) ∙ ap (shadow (committed e t own) v) (sym q) ∙ h))
-      (λ (q : u ≡ t → ⊥). let w = kept_was own (shadow e v u) s (sym (others_kept e o.sized t t_in own v u a q d) ∙ h) in (w.0, not_from_false (has_read_any s.reads own) w.1))
-      (cases_eq u t);
-  lead_stays = λ v l a h r. lead_stays e o.sized t t_in own v l a h (not-true (has_read_any l.reads own) r);
+  closes = closes_so e o t t_in own;
+  others = λ v u s a b d. (
+    λ h. let w = kept_was own (shadow e v u) s (sym (others_kept e o.sized t t_in own v u a b d) ∙ h) in (w.0, not_from_false (has_read_any s.reads own) w.1),
+    λ h. others_kept e o.sized t t_in own v u a b d ∙ ap (kept own) h.0 ∙ kept-unread own s (not-true (has_read_any s.reads own) h.1),
+  );
+  stays = λ v l a h r. lead_stays e o.sized t t_in own v l a h (not-true (has_read_any l.reads own) r);
   spoiled = λ v l a h r.
-      let so = picks_furthest any_shadow v (remaining own (row e v)) in
-      let now_leads = lead_renewed e o.sized t t_in own v l a h (not-false (has_read_any l.reads own) r) in
-      leads_from v (furthest_of any_shadow v (remaining own (row e v))) (remaining-furthest own v (row e v) (furthest_of any_shadow v (remaining own (row e v))) so) now_leads;
+      leads_from v (furthest_of any_shadow v (remaining own (row e v)))
+      (remaining-furthest own v (row e v) (furthest_of any_shadow v (remaining own (row e v))) (picks_furthest any_shadow v (remaining own (row e v))))
+      (lead_renewed e o.sized t t_in own v l a h (not-false (has_read_any l.reads own) r));
+  unled = λ v h. ⊎_elim (λ (q : v ≡ t). ap (λ m. shadow (committed e t own) m v) q ∙ none_of e o.sized t t_in own v) (λ (q : v ≡ t → ⊥). lead_none e o.sized t t_in own v q h) (cases_eq v t);
 }
   where
-    leads_from : (v : ℕ) (x : Option Stand) → Furthest (unread own) v (row e v) x → shadow (committed e t own) v v ≡ Some (unwrap_or x start) → (s : Stand) × (shadow (committed e t own) v v ≡ Some s) × (Furthest (unread own) v (row e v) (Some s) ⊎ ((s ≡ start) × Furthest (unread own) v (row e v) None))
-    leads_from v None f h = (start, h, inr (refl, f))
-    leads_from v (Some s) f h = (s, h, inl f)
+    leads_from : (v : ℕ) (x : Option Stand) → Furthest (unread own) v (row e v) x → shadow (committed e t own) v v ≡ Some (unwrap_or x start) → (s : Stand) × FurthestOrStart (unread own) v (row e v) s × (shadow (committed e t own) v v ≡ Some s)
+    leads_from v None f h = (start, inr (refl, f), h)
+    leads_from v (Some s) f h = (s, inl f, h)
 
-pub commits_in_words : CommitsInWords
-commits_in_words ar s t r n lead sound accepted h =
-    let o = ok_from s.engine sound in
-    let t_in = (shadow-within s.engine o.sized t t lead h).0 in
-    let left = commit-leaves ar s t r n lead h accepted in
-    (subst (CommitsSo s.engine t lead.own) (ap (λ z. z.engine) (sym left)) (commits_so s.engine o t t_in lead.own), ap (λ z. z.pages) left)
+-- an abort is a commit of nothing
+pub aborts_so : (e : Engine) → Holds e → (t : ℕ) → t < 8 → Aborts e t (closed e t e.shadows)
+aborts_so e o t t_in = subst (Aborts e t) (abort_is e t) (record { closes = closes_so e o t t_in []; others = others })
+  where
+    others : (v u : ℕ) → v ≢ t → u ≢ t → shadow (committed e t []) v u ≡ shadow e v u
+    others v u a b =
+        ⊎_elim
+        (λ (q : u ≡ v). subst (λ m. shadow (committed e t []) v m ≡ shadow e v m) (sym q) (⊎_elim
+        (λ (l : (x : Stand) × (shadow e v v ≡ Some x)). lead_stays e o.sized t t_in [] v l.0 a l.1 (read_any_nil l.0.reads) ∙ sym l.1)
+        (λ (l : shadow e v v ≡ None). lead_none e o.sized t t_in [] v a l ∙ sym l)
+        (some_or_none (shadow e v v))))
+        (λ (q : u ≡ v → ⊥). others_kept e o.sized t t_in [] v u a b q ∙ kept_nil (shadow e v u))
+        (cases_eq u v)
+
+pub opens_so : (e : Engine) → Holds e → (t : ℕ) → t < 8 → (sc : Steps) → Opens e t sc (begun e t sc)
+opens_so e o t t_in sc =
+    let so = begun-so e o.sized t t_in sc in
+    record {
+      runs = so.script_now;
+      scripts = so.script_other;
+      lead = so.lead_now;
+      besides = λ v w d. ⊎_elim
+          (λ (q : v ≡ t). subst (λ m. shadow (begun e t sc) m w ≡ shadow e m w) (sym q) (so.place_other w (d q)))
+          (λ (q : v ≡ t → ⊥). so.shadow_other v w q)
+          (cases_eq v t);
+      allowance = refl;
+      eight = (so.sized.scripts, so.sized.rows, so.sized.places);
+    }
 
 -- accounting changes one place at most
 account_other : (e : Engine) → Holds e → (t u : ℕ) → is_open e t ≡ true → is_open e u ≡ true → (v w : ℕ) → (v ≡ t → w ≡ u → ⊥) → shadow (account e t u) v w ≡ shadow e v w
@@ -213,9 +236,6 @@ account_other e o t u t_open u_open v w d =
     (λ (q : v ≡ t → ⊥). shadow_put_row e o.sized t u t_in u_in x v w q)
     (cases_eq v t))
     (λ h. refl)
-
-account-allowance : (e : Engine) (t u : ℕ) → (account e t u).allowance ≡ e.allowance
-account-allowance e t u = cond_both (has_room e t u) _ e (λ z. z.allowance ≡ e.allowance) (λ h. refl) (λ h. refl)
 
 -- what accounting before a read changes
 reads-besides : (us : List ℕ) (e : Engine) (t p : ℕ) → Holds e → is_open e t ≡ true → (v w : ℕ)
@@ -273,126 +293,64 @@ after-besides : (e : Engine) (t : ℕ) (wr : Option ℕ) → Holds e → is_open
 after-besides e t None o t_open v w d = refl
 after-besides e t (Some p) o t_open v w d = writes_besides slots e t p o t_open v w (λ q ne v_open read due. d q ne v_open (p, refl, read, due))
 
--- the allowance stays
-reads-allowance : (us : List ℕ) (e : Engine) (t p : ℕ) → (account_reads e t p us).allowance ≡ e.allowance
-reads-allowance [] e t p = refl
-reads-allowance (u ∷ us) e t p = reads-allowance us (account_read e t p u) t p ∙ cond_both (read_conflict e t p u) (account e t u) e (λ z. z.allowance ≡ e.allowance) (λ h. account-allowance e t u) (λ h. refl)
-
-writes_allowance : (vs : List ℕ) (e : Engine) (t p : ℕ) → (account_writes e t p vs).allowance ≡ e.allowance
-writes_allowance [] e t p = refl
-writes_allowance (v ∷ vs) e t p = writes_allowance vs (account_write e t p v) t p ∙ cond_both (write_conflict e t p v) (account e v t) e (λ z. z.allowance ≡ e.allowance) (λ h. account-allowance e v t) (λ h. refl)
-
-before_allowance : (e : Engine) (t : ℕ) (o : Option ℕ) → (before_step e t o).allowance ≡ e.allowance
-before_allowance e t None = refl
-before_allowance e t (Some p) = reads-allowance slots e t p
-
-after-allowance : (e : Engine) (t : ℕ) (o : Option ℕ) → (after_step e t o).allowance ≡ e.allowance
-after-allowance e t None = refl
-after-allowance e t (Some p) = writes_allowance slots e t p
-
-pub moves-allowance : (e : Engine) (t u : ℕ) (sc : Steps) (s to : Stand) → (shadow_moves e t u sc s to).allowance ≡ e.allowance
-moves-allowance e t u sc s to =
-    cond_both (eqb u t) (lead_moves e t sc s to) (with_shadow e t u (Some to)) (λ z. z.allowance ≡ e.allowance)
-    (λ h. after-allowance _ t (write_of (slice_get sc s.step) s) ∙ before_allowance e t (store_read (slice_get sc s.step) s))
-    (λ h. refl)
-
--- a move of a leading shadow
-lead_so : (ar : Meaning) (st : State) → Holds st.engine → (t : ℕ) (sc : Steps) (s to : Stand) → script_of st.engine t ≡ Some sc → shadow st.engine t t ≡ Some s → next ar sc st.pages s ≡ Some (moved to) → TurnsSo ar st t t sc s (lead_moves st.engine t sc s to)
-lead_so ar st o t sc s to script lead step =
-    let e = st.engine in
-    let sr = store_read (slice_get sc s.step) s in
-    let wr = write_of (slice_get sc s.step) s in
-    let e₁ = before_step e t sr in
-    let e₂ = with_shadow e₁ t t (Some to) in
-    let t_open : is_open e t ≡ true = ap is_some script in
-    let t_in = open_within e o.sized t t_open in
-    let b = before_stays e t sr o t_open in
-    let script₁ : script_of e₁ t ≡ Some sc = ap (λ xs. get_or xs t None) b.scripts ∙ script in
-    let lead₁ : shadow e₁ t t ≡ Some s = b.leads t ∙ lead in
-    let fits = next_fits ar sc st.pages s to (o.scripts t sc script).1 step (o.shadows t t sc s script lead) in
-    let ok₂ = put_ok e₁ b.ok t t t_in t_in sc script₁ (ap is_some script₁) to fits (let few = b.ok.few t in omega (arith, count_set (row e₁ t) t s to lead₁)) in
-    let now_there : shadow e₂ t t ≡ Some to = shadow_put e₁ b.ok.sized t t t_in t_in (Some to) in
-    record {
-      to = to;
-      step = step;
-      named = after-besides e₂ t wr ok₂ (ap is_some script₁) t t (λ q ne _ _. ne refl) ∙ now_there;
-      besides = λ v w d free.
-          let mid : (x y : ℕ) → (x ≡ t → y ≡ t → ⊥) → shadow e₂ x y ≡ shadow e₁ x y = λ x y c. ⊎_elim
-          (λ (q : x ≡ t). subst (λ m. shadow e₂ m y ≡ shadow e₁ m y) (sym q) (shadow_put_place e₁ b.ok.sized t t t_in t_in (Some to) y (c q)))
-          (λ (q : x ≡ t → ⊥). shadow_put_row e₁ b.ok.sized t t t_in t_in (Some to) x y q)
-          (cases_eq x t) in
-          -- rows other than t's are as they were before the move
-          let rest : (x y : ℕ) → x ≢ t → shadow e₂ x y ≡ shadow e x y = λ x y c. mid x y (λ q _. c q) ∙ before_besides e t sr o t_open x y (λ q _ _ _ _. c q) in
-          after-besides e₂ t wr ok₂ (ap is_some script₁) v w
-          (λ q ne v_open x. free refl (inr (
-            q,
-            ne,
-            open_kept e₁ e v (sym b.scripts) v_open,
-            (
-              x.0,
-              x.1,
-              ap (λ z. has_read (reads_of z) x.0) (sym (rest v v ne)) ∙ x.2,
-              ⊎_elim (λ (z : shadow e₂ v t ≡ None). inl (sym (rest v t ne) ∙ z)) (λ (z : has_read (reads_of (shadow e₂ v t)) x.0 ≡ true). inr (ap (λ y. has_read (reads_of y) x.0) (sym (rest v t ne)) ∙ z)) x.3,
-            ),
-          )))
-          ∙ mid v w d
-          ∙ before_besides e t sr o t_open v w (λ q ne w_open gone x. free refl (inl (q, ne, w_open, gone, x)));
-      scripts = moves-scripts_lead e t sc s to;
-      allowance = moves-allowance_lead e t sc s to;
-    }
-  where
-    same_slot : (t : ℕ) → eqb t t ≡ true
-    same_slot t = eq-eqb t t refl
-
-    moves-scripts_lead : (e : Engine) (t : ℕ) (sc : Steps) (s to : Stand) → (lead_moves e t sc s to).scripts ≡ e.scripts
-    moves-scripts_lead e t sc s to = ap (λ z. z.scripts) (sym (cond-true (eqb t t) (lead_moves e t sc s to) (with_shadow e t t (Some to)) (same_slot t))) ∙ moves-scripts e t t sc s to
-
-    moves-allowance_lead : (e : Engine) (t : ℕ) (sc : Steps) (s to : Stand) → (lead_moves e t sc s to).allowance ≡ e.allowance
-    moves-allowance_lead e t sc s to = ap (λ z. z.allowance) (sym (cond-true (eqb t t) (lead_moves e t sc s to) (with_shadow e t t (Some to)) (same_slot t))) ∙ moves-allowance e t t sc s to
-
-moves_so : (ar : Meaning) (st : State) → Holds st.engine → (t u : ℕ) (sc : Steps) (s to : Stand) → script_of st.engine t ≡ Some sc → shadow st.engine t u ≡ Some s → next ar sc st.pages s ≡ Some (moved to) → TurnsSo ar st t u sc s (shadow_moves st.engine t u sc s to)
-moves_so ar st o t u sc s to script h step =
-    cond_both (eqb u t) (lead_moves st.engine t sc s to) (with_shadow st.engine t u (Some to)) (TurnsSo ar st t u sc s)
-    (λ q. let same : t ≡ u = sym (eqb-true u t q) in subst (λ w. TurnsSo ar st t w sc s (lead_moves st.engine t sc s to)) same (lead_so ar st o t sc s to script (ap (shadow st.engine t) same ∙ h) step))
-    (λ q.
-    let in_both = shadow-within st.engine o.sized t u s h in
-    record {
-      to = to;
-      step = step;
-      named = shadow_put st.engine o.sized t u in_both.0 in_both.1 (Some to);
-      besides = λ v w d free. ⊎_elim
-          (λ (x : v ≡ t). subst (λ m. shadow (with_shadow st.engine t u (Some to)) m w ≡ shadow st.engine m w) (sym x) (shadow_put_place st.engine o.sized t u in_both.0 in_both.1 (Some to) w (d x)))
-          (λ (x : v ≡ t → ⊥). shadow_put_row st.engine o.sized t u in_both.0 in_both.1 (Some to) v w x)
-          (cases_eq v t);
-      scripts = refl;
-      allowance = refl;
-    })
-
 -- a turn comes to what its shadow's standing says
-pub turn_at : (ar : Meaning) (s : State) (t u : ℕ) (sc : Steps) (at : Stand) → t < 8 → u < 8 → script_of s.engine t ≡ Some sc → shadow s.engine t u ≡ Some at → does ar (turn t u) s ≡ turn_standing ar s t u sc at (standing s.engine t u sc at)
+turn_at : (ar : Meaning) (s : State) (t u : ℕ) (sc : Steps) (at : Stand) → t < 8 → u < 8 → script_of s.engine t ≡ Some sc → shadow s.engine t u ≡ Some at → does ar (turn t u) s ≡ turn_standing ar s t u sc at (standing s.engine t u sc at)
 turn_at ar s t u sc at t_in u_in script h =
     cond-true (leb t 7) (in_range s u (turn_open ar s t u (script_of s.engine t))) _ (le-leb t 7 (omega arith))
     ∙ cond-true (leb u 7) (turn_open ar s t u (script_of s.engine t)) _ (le-leb u 7 (omega arith))
     ∙ ap (turn_open ar s t u) script ∙ ap (turn_shadow ar s t u sc) h
 
-pub turns_in_words : TurnsInWords
-turns_in_words ar s t u sc at sound script h accepted =
+-- a turn of a leading shadow changes only places that are accounted for
+leads_change : (ar : Meaning) (st : State) → Holds st.engine → (t : ℕ) (sc : Steps) (s to : Stand) → script_of st.engine t ≡ Some sc → shadow st.engine t t ≡ Some s → next ar sc st.pages s ≡ Some (moved to)
+    → (v w : ℕ) → (v ≡ t → w ≢ t) → (AccountedFor st.engine t sc s v w → ⊥) → shadow (lead_moves st.engine t sc s to) v w ≡ shadow st.engine v w
+leads_change ar st o t sc s to script lead step v w d free =
+    let e = st.engine in
+    let e₁ = ready ar st o t sc s to script lead step in
+    let e₂ = stepped ar st o t sc s to script lead step in
+    let b = ready_stays ar st o t sc s to script lead step in
+    let put = places e₁ b.ok.sized t t (lead_in ar st o t sc s to script lead step) (lead_in ar st o t sc s to script lead step) to in
+    let t_is_open = lead_open ar st o t sc s to script lead step in
+    let sr = store_read (slice_get sc s.step) s in
+    -- rows other than t's are as they were before the move
+    let rest : (x y : ℕ) → x ≢ t → shadow e₂ x y ≡ shadow e x y = λ x y c. put.besides x y (λ q _. c q) ∙ before_besides e t sr o t_is_open x y (λ q _ _ _ _. c q) in
+    after-besides e₂ t (write_of (slice_get sc s.step) s) (stepped_ok ar st o t sc s to script lead step) (ap is_some (script_then ar st o t sc s to script lead step)) v w
+    (λ q ne v_open x. free (inr (
+      q,
+      record {
+        other = ne;
+        opened = open_kept e₁ e v (sym b.scripts) v_open;
+        page = x.0;
+        is_written = x.1;
+        lead_read = ap (λ z. has_read (reads_of z) x.0) (sym (rest v v ne)) ∙ x.2;
+        lacks_or_read = ⊎_elim
+            (λ (z : shadow e₂ v t ≡ None). inl (sym (rest v t ne) ∙ z))
+            (λ (z : has_read (reads_of (shadow e₂ v t)) x.0 ≡ true). inr (ap (λ y. has_read (reads_of y) x.0) (sym (rest v t ne)) ∙ z))
+            x.3;
+      },
+    )))
+    ∙ put.besides v w d
+    ∙ before_besides e t sr o t_is_open v w (λ q ne w_open gone x. free (inl (q, record { other = ne; opened = w_open; lacks = gone; page = x.0; is_read = x.1; wrote = x.2 })))
+
+pub turns_change_only : TurnsChangeOnly
+turns_change_only ar s t u sc at sound script h v w d free =
     let o = ok_from s.engine sound in
     let in_both = shadow-within s.engine o.sized t u at h in
-    let to_standing = turn_at ar s t u sc at in_both.0 in_both.1 script h in
-    subst Said (sym to_standing) (by_standing o (standing s.engine t u sc at)) accepted
+    subst Same (sym (turn_at ar s t u sc at in_both.0 in_both.1 script h)) (by_standing o (standing s.engine t u sc at))
   where
-    Said : Done → Type 0
-    Said d = d.1 ≡ Ok (Took Moved) → TurnsSo ar s t u sc at d.0.engine × (d.0.pages ≡ s.pages)
+    Same : Done → Type 0
+    Same x = shadow x.0.engine v w ≡ shadow s.engine v w
 
-    by_step : Holds s.engine → (x : Option Taken) → next ar sc s.pages at ≡ x → Said (turn_step s t u sc at x)
-    by_step o None q = λ e. let z : ◌≡◌ {A = ℕ} 0 1 = cc in absurd (omega arith)
-    by_step o (Some (off_pages p)) q = λ e. let z : ◌≡◌ {A = ℕ} 0 1 = cc in absurd (omega arith)
-    by_step o (Some (moved to)) q = λ e. (moves_so ar s o t u sc at to script h q, refl)
+    by_step : Holds s.engine → (x : Option Taken) → next ar sc s.pages at ≡ x → Same (turn_step s t u sc at x)
+    by_step o None q = refl
+    by_step o (Some (off_pages p)) q = refl
+    by_step o (Some (moved to)) q =
+        cond_both (eqb u t) (lead_moves s.engine t sc at to) (with_shadow s.engine t u (Some to)) (λ z. shadow z v w ≡ shadow s.engine v w)
+        (λ k. let same = eqb-true u t k in leads_change ar s o t sc at to script (ap (shadow s.engine t) (sym same) ∙ h) q v w (λ a b. d a (b ∙ sym same)) (free same))
+        (λ k. let in_both = shadow-within s.engine o.sized t u at h in (places s.engine o.sized t u in_both.0 in_both.1 to).besides v w d)
 
-    by_standing : Holds s.engine → (x : Standing) → Said (turn_standing ar s t u sc at x)
-    by_standing o AtEnd = λ e. let z : ◌≡◌ {A = ℕ} 0 1 = cc in absurd (omega arith)
-    by_standing o Halted = λ e. let z : ◌≡◌ {A = ℕ} 0 1 = cc in absurd (omega arith)
+    by_standing : Holds s.engine → (x : Standing) → Same (turn_standing ar s t u sc at x)
+    by_standing o AtEnd = refl
+    by_standing o Halted = refl
     by_standing o Ready = by_step o (next ar sc s.pages at) refl
 
 -- a declined call changes nothing
@@ -452,28 +410,3 @@ module _ (ar : Meaning) (s : State) (f : CallFault) where
 
 pub declined_changes_nothing : DeclinedChangesNothing
 declined_changes_nothing ar c s f h = unchanged ar s f c h
-
--- accounting, in words
-pub accounts_in_words : AccountsInWords
-accounts_in_words e t u sound t_open u_open =
-    let o = ok_from e sound in
-    let t_in = open_within e o.sized t t_open in
-    let u_in = open_within e o.sized u u_open in
-    let forked = Some (unwrap_or (furthest_of (clean e u) t (row e t)) start) in
-    record {
-      room = λ h.
-          let fits : has_room e t u ≡ true = ⊎_elim
-          (λ (a : is_some (shadow e t u) ≡ true). or_left (is_some (shadow e t u)) (ltb (count (row e t)) e.allowance) a)
-          (λ (a : count (row e t) < e.allowance). or_right (is_some (shadow e t u)) (ltb (count (row e t)) e.allowance) (lt-ltb (count (row e t)) e.allowance a))
-          h in
-          let now_there : shadow (account e t u) t u ≡ forked = ap (λ z. shadow z t u) (cond-true (has_room e t u) (with_shadow e t u forked) e fits) ∙ shadow_put e o.sized t u t_in u_in forked in
-          from_furthest (furthest_of (clean e u) t (row e t)) (picks_furthest (clean e u) t (row e t)) now_there;
-      no_room = λ none full. cond-false (has_room e t u) (with_shadow e t u forked) e (or_from (is_some (shadow e t u)) (ltb (count (row e t)) e.allowance) (ap is_some none) (le-ltb (count (row e t)) e.allowance full));
-      besides = account_other e o t u t_open u_open;
-      scripts = cond_both (has_room e t u) (with_shadow e t u forked) e (λ z. z.scripts ≡ e.scripts) (λ h. refl) (λ h. refl);
-      allowance = account-allowance e t u;
-    }
-  where
-    from_furthest : (x : Option Stand) → Furthest (clean e u) t (row e t) x → shadow (account e t u) t u ≡ Some (unwrap_or x start) → (s : Stand) × (shadow (account e t u) t u ≡ Some s) × (Furthest (clean e u) t (row e t) (Some s) ⊎ ((s ≡ start) × Furthest (clean e u) t (row e t) None))
-    from_furthest None f h = (start, h, inr (refl, f))
-    from_furthest (Some s) f h = (s, h, inl f)

@@ -3,7 +3,10 @@ pub mod Alone
 pub mod Laws
 pub mod Faults
 pub mod Rules
+pub mod Questions
 pub mod Book
 pub mod Sound
 pub mod Words
+pub mod Refused
+pub mod Outcome
 pub mod Shown

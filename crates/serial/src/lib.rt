@@ -2,10 +2,14 @@
 // calls share, and no state.
 #![tactic(auto)]
 
+ghost use Rattle.std.specs.Prelude.{ℕ, List};
 ghost use Rattle.serial.specs.Book.{EveryListBooked};
 ghost use Rattle.serial.specs.Laws.{StepsRise, RunsDetermined, ReadsGrow, UnreadReached, StandFound};
 ghost use Rattle.serial.specs.Sound.{EnginesStaySound};
-ghost use Rattle.serial.specs.Words.{PicksFurthest, CommitsInWords, AccountsInWords, TurnsInWords, DeclinedChangesNothing};
+ghost use Rattle.serial.specs.Words.{FreshInWords, RelationsFixEngine, TestsByEntry, PicksFurthest, AccountsInWords, TurnsChangeOnly, DeclinedChangesNothing};
+ghost use Rattle.serial.specs.Refused.{FaultsTold};
+ghost use Rattle.serial.specs.Outcome.{OneOutcome, OneRun, DeclinedExactly, AcceptedExactly, StandInWords, ReadEntryInWords};
+ghost use Rattle.serial.specs.Rules.{set_allowance, begin, turn, commit, abort};
 
 mod fault;
 
@@ -33,12 +37,27 @@ pub fn every_list_is_booked()
     ensures { EveryListBooked }
 {}
 
-// What the rules do, in words, and what holds in every engine. The function does nothing: its contract is what is proved.
+// The rules in words, both ways: for each call and question what the words say, and nothing else, is what the rules do, and
+// each relation among them leaves one engine. And what holds in every engine. The function does nothing: its contract is
+// what is proved.
 pub fn rules_in_words()
+    ensures set_allowance { (k : ℕ) → OneOutcome (set_allowance k) }
+    ensures begin { (t : ℕ) (bytes : List ℕ) → OneOutcome (begin t bytes) }
+    ensures turn { (t u : ℕ) → OneOutcome (turn t u) }
+    ensures commit { (t : ℕ) → OneOutcome (commit t) }
+    ensures abort { (t : ℕ) → OneOutcome (abort t) }
+    ensures stand { StandInWords }
+    ensures read_entry { ReadEntryInWords }
+    ensures declined { DeclinedExactly }
+    ensures accepted { AcceptedExactly }
+    ensures unchanged { DeclinedChangesNothing }
+    ensures told { FaultsTold }
+    ensures run { OneRun }
+    ensures fresh { FreshInWords }
+    ensures fixed { RelationsFixEngine }
+    ensures tests { TestsByEntry }
     ensures furthest { PicksFurthest }
-    ensures commits { CommitsInWords }
     ensures accounts { AccountsInWords }
-    ensures turns { TurnsInWords }
-    ensures declined { DeclinedChangesNothing }
+    ensures change { TurnsChangeOnly }
     ensures sound { EnginesStaySound }
 {}

@@ -4,7 +4,7 @@ ghost use Rattle.std.specs.Option.{option_map};
 ghost use Rattle.serial.specs.Rules.{shadow as shadow_at};
 ghost use Rattle.engine.specs.View.{stand_of};
 ghost use Rattle.engine.specs.Table.{engine_of};
-ghost use Rattle.engine.specs.Questions.{stand_told, entry_told};
+ghost use Rattle.serial.specs.Questions.{stand_told, entry_told};
 
 use super::Engine;
 use crate::shadow::Shadow;
