@@ -1,3 +1,4 @@
 pub mod Script
 pub mod View
 pub mod Laws
+pub mod Positions

@@ -4,6 +4,7 @@ ghost use Rattle.std.specs.List.{slice_get};
 ghost use Rattle.basics.specs.Bytes.{big_endian};
 ghost use Rattle.script.specs.Script.{register, size_told, defined, steps_told, code_at, step_at, decoded};
 ghost use Rattle.script.specs.Laws.{Decodes};
+ghost use Rattle.script.specs.Positions.{DecodedByPosition};
 ghost use Rattle.script.specs.View.{steps_of};
 
 use crate::{Action, MOST_STEPS, Register, Script, ScriptFault, Step};
@@ -72,10 +73,11 @@ fn decode_step(bytes: &[u8], n: usize, i: usize, code: u8) -> Option<Step>
 }
 
 // Decodes a script, or says why there is none. That is no `TryFrom`, whose one promise has no room for the second clause.
-#[tactic(auto, using(crate::proofs::Decoded::decodes))]
+#[tactic(auto, using(crate::proofs::Decoded::decodes, crate::proofs::Positions::decoded_by_position))]
 pub fn decode(bytes: &[u8]) -> Result<Script, ScriptFault>
     ensures rule { MatchResult result (λ s. decoded bytes.now ≡ Ok (steps_of s)) (λ f. decoded bytes.now ≡ Err f) }
     ensures told { Decodes bytes.now (decoded bytes.now) }
+    ensures positions { DecodedByPosition bytes.now }
 {
     let n = fit_size(bytes).ok_or(ScriptFault::Unfit(bytes.len()))?;
     let mut steps = Trail::new(UNUSED);
