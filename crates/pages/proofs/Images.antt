@@ -37,12 +37,12 @@ module _ (bs : List ℕ) where
       ap (first_bad bs) (sym e) ∙ stays (suc i) (n - suc i) i here
 
 -- where all of the first n page numbers are good, each is
-or_this-none : (good : Bool) (i : ℕ) (found : Option ℕ) → or_this good i found ≡ None → (found ≡ None) × (good ≡ true)
+pub or_this-none : (good : Bool) (i : ℕ) (found : Option ℕ) → or_this good i found ≡ None → (found ≡ None) × (good ≡ true)
 or_this-none good i (Some k) e = absurd (cc)
 or_this-none good i None e =
     (refl, elim good as (λ b. cond b None (Some i) ≡ None → b ≡ true) [ true ↦ λ x. refl | false ↦ λ x. absurd (cc) ] e)
 
-all_good : (bs : List ℕ) (n : ℕ) → first_bad bs n ≡ None → (i : ℕ) → i < n → good_number bs i ≡ true
+pub all_good : (bs : List ℕ) (n : ℕ) → first_bad bs n ≡ None → (i : ℕ) → i < n → good_number bs i ≡ true
 all_good bs zero h i l = absurd (omega arith)
 all_good bs (suc n) h i l =
     let both = or_this-none (good_number bs n) n (first_bad bs n) h in

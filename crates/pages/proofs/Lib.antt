@@ -2,3 +2,4 @@ pub mod Entries
 pub mod Logs
 pub mod Images
 pub mod Chains
+pub mod ByIndex

@@ -8,18 +8,10 @@ use Rattle.std.specs.Option.{option_map_or}
 use Rattle.pages.specs.Entries.{all_below, carried, latest, length-carried}
 use Rattle.pages.specs.declared.log.Layout.{Layout}
 use Rattle.pages.specs.Log.{layout_of, size_word, capacity, used, entry_page, entry_word, sound, base, log_pages, emptied, appended, with_room, log_put}
+use Rattle.pages.specs.ByIndex.{IsSound}
 use Rattle.pages.proofs.Entries.{all_below-same, all_below_at, all_below_from, latest_at, latest_none, carried_other, carried_part, carried_same, get_or-carried}
 
--- what a sound layout is, fact by fact
-pub record Sound (ws : List ℕ) : Type 0 where
-  pub few : size_word ws ≤ 4096
-  pub some : 1 ≤ capacity ws
-  pub room : capacity ws ≤ 4096
-  pub within : used ws ≤ capacity ws
-  pub long : length ws ≡ 3 + size_word ws + 2 * capacity ws
-  pub named : (i : ℕ) → i < used ws → entry_page ws i < size_word ws
-
-pub sound_facts : (ws : List ℕ) → sound ws ≡ true → Sound ws
+pub sound_facts : (ws : List ℕ) → sound ws ≡ true → IsSound ws
 sound_facts ws h =
     let a = and_parts _ _ h in
     let b = and_parts _ _ a.1 in
@@ -35,7 +27,7 @@ sound_facts ws h =
       named = all_below_at _ _ _ e.1;
     }
 
-pub sound_from : (ws : List ℕ) → Sound ws → sound ws ≡ true
+pub sound_from : (ws : List ℕ) → IsSound ws → sound ws ≡ true
 sound_from ws s =
     and_from _ _ (le-leb _ _ s.few) (and_from _ _ (le-leb _ _ s.some) (and_from _ _ (le-leb _ _ s.room)
     (and_from _ _ (le-leb _ _ s.within) (and_from _ _ (eq-eqb _ _ s.long) (all_below_from _ _ _ s.named)))))
@@ -64,7 +56,7 @@ used-tested ws long =
 pub log_pages-sound : (ws : List ℕ) → sound ws ≡ true → log_pages ws ≡ carried (entry_page ws) (entry_word ws) 0 (base ws) (used ws)
 log_pages-sound ws h = cond-true (sound ws) _ [] h
 
-pub length-base : (ws : List ℕ) → Sound ws → length (base ws) ≡ size_word ws
+pub length-base : (ws : List ℕ) → IsSound ws → length (base ws) ≡ size_word ws
 length-base ws s = simp (length-take, length-drop) (omega (arith, s.long))
 
 pub length-log_pages : (ws : List ℕ) → sound ws ≡ true → length (log_pages ws) ≡ size_word ws
@@ -114,29 +106,29 @@ layout-size_or ws =
 -- an append with room: sound words stay sound, and the page holds the word
 module _ (ws : List ℕ) (p w : ℕ) (h : sound ws ≡ true) (room : used ws < capacity ws) (low : p < size_word ws) where
   -- a word that is none of the three that are written
-  elsewhere : (k : ℕ) → k ≢ 2 → k ≢ 3 + size_word ws + used ws → k ≢ 3 + size_word ws + capacity ws + used ws → get_or (appended ws p w) k 0 ≡ get_or ws k 0
+  pub elsewhere : (k : ℕ) → k ≢ 2 → k ≢ 3 + size_word ws + used ws → k ≢ 3 + size_word ws + capacity ws + used ws → get_or (appended ws p w) k 0 ≡ get_or ws k 0
   elsewhere k a b e = get_or-set_other _ 2 k _ 0 a ∙ get_or-set_other _ (3 + size_word ws + capacity ws + used ws) k w 0 e ∙ get_or-set_other ws _ k p 0 b
 
-  length-appended : length (appended ws p w) ≡ length ws
+  pub length-appended : length (appended ws p w) ≡ length ws
   length-appended = length-set _ 2 _ ∙ length-set _ (3 + size_word ws + capacity ws + used ws) w ∙ length-set ws _ p
 
-  size_kept : size_word (appended ws p w) ≡ size_word ws
+  pub size_kept : size_word (appended ws p w) ≡ size_word ws
   size_kept = elsewhere 0 (λ e. omega arith) (λ e. omega arith) (λ e. omega arith)
 
-  capacity-kept : capacity (appended ws p w) ≡ capacity ws
+  pub capacity-kept : capacity (appended ws p w) ≡ capacity ws
   capacity-kept = elsewhere 1 (λ e. omega arith) (λ e. omega arith) (λ e. omega arith)
 
-  used_more : used (appended ws p w) ≡ suc (used ws)
+  pub used_more : used (appended ws p w) ≡ suc (used ws)
   used_more =
       let s = sound_facts ws h in
       let long = s.long in
       get_or-set_same (set (set ws (3 + size_word ws + used ws) p) (3 + size_word ws + capacity ws + used ws) w) 2 (used ws + 1) 0
       (simp length-set (omega arith)) ∙ (omega arith)
 
-  page_at : (i : ℕ) → entry_page (appended ws p w) i ≡ get_or (appended ws p w) (3 + size_word ws + i) 0
+  pub page_at : (i : ℕ) → entry_page (appended ws p w) i ≡ get_or (appended ws p w) (3 + size_word ws + i) 0
   page_at i = ap (λ m. get_or (appended ws p w) (3 + m + i) 0) size_kept
 
-  word_at : (i : ℕ) → entry_word (appended ws p w) i ≡ get_or (appended ws p w) (3 + size_word ws + capacity ws + i) 0
+  pub word_at : (i : ℕ) → entry_word (appended ws p w) i ≡ get_or (appended ws p w) (3 + size_word ws + capacity ws + i) 0
   word_at i = ap (λ m. get_or (appended ws p w) (3 + m + capacity (appended ws p w) + i) 0) size_kept ∙ ap (λ m. get_or (appended ws p w) (3 + size_word ws + m + i) 0) capacity-kept
 
   pages-kept : (i : ℕ) → i < used ws → entry_page (appended ws p w) i ≡ entry_page ws i
@@ -145,7 +137,7 @@ module _ (ws : List ℕ) (p w : ℕ) (h : sound ws ≡ true) (room : used ws < c
   words_kept : (i : ℕ) → i < used ws → entry_word (appended ws p w) i ≡ entry_word ws i
   words_kept i l = word_at i ∙ elsewhere (3 + size_word ws + capacity ws + i) (λ e. omega arith) (λ e. omega arith) (λ e. omega arith)
 
-  page_new : entry_page (appended ws p w) (used ws) ≡ p
+  pub page_new : entry_page (appended ws p w) (used ws) ≡ p
   page_new =
       let long = (sound_facts ws h).long in
       let at = 3 + size_word ws + used ws in
@@ -154,7 +146,7 @@ module _ (ws : List ℕ) (p w : ℕ) (h : sound ws ≡ true) (room : used ws < c
       ∙ get_or-set_other _ (3 + size_word ws + capacity ws + used ws) at w 0 (λ e. omega arith)
       ∙ get_or-set_same ws at p 0 (omega arith)
 
-  word_new : entry_word (appended ws p w) (used ws) ≡ w
+  pub word_new : entry_word (appended ws p w) (used ws) ≡ w
   word_new =
       let long = (sound_facts ws h).long in
       let at = 3 + size_word ws + capacity ws + used ws in
@@ -208,7 +200,7 @@ module _ (ws : List ℕ) (p w : ℕ) (h : sound ws ≡ true) (room : used ws < c
 
 -- a full log emptied: the same pages, with all the room free
 module _ (ws : List ℕ) (h : sound ws ≡ true) (full : used ws ≡ capacity ws) where
-  named_all : (i : ℕ) → i < capacity ws → entry_page ws i < size_word ws
+  pub named_all : (i : ℕ) → i < capacity ws → entry_page ws i < size_word ws
   named_all i l = (sound_facts ws h).named i (omega arith)
 
   -- carrying entries changes nothing outside the base words
@@ -218,12 +210,12 @@ module _ (ws : List ℕ) (h : sound ws ≡ true) (full : used ws ≡ capacity ws
       (λ i l e. let low = named_all i (omega arith) in ⊎_elim (λ (x : k < 3). omega arith) (λ (x : 3 + size_word ws ≤ k). omega arith) out)
 
   -- outside the base words, but for the count of used entries, nothing changes
-  beside : (k : ℕ) → k ≢ 2 → (k < 3) ⊎ (3 + size_word ws ≤ k) → get_or (emptied ws) k 0 ≡ get_or ws k 0
+  pub beside : (k : ℕ) → k ≢ 2 → (k < 3) ⊎ (3 + size_word ws ≤ k) → get_or (emptied ws) k 0 ≡ get_or ws k 0
   beside k a out =
       get_or-set_other (carried (entry_page ws) (entry_word ws) 3 ws (capacity ws)) 2 k 0 0 a
       ∙ carried_beside (capacity ws) k (omega arith) out
 
-  length-emptied : length (emptied ws) ≡ length ws
+  pub length-emptied : length (emptied ws) ≡ length ws
   length-emptied = length-set (carried (entry_page ws) (entry_word ws) 3 ws (capacity ws)) 2 0 ∙ length-carried (entry_page ws) (entry_word ws) 3 ws (capacity ws)
 
   pub emptied_size : size_word (emptied ws) ≡ size_word ws

@@ -5,3 +5,4 @@ pub mod Log
 pub mod LogStore
 pub mod Image
 pub mod Load
+pub mod ByIndex

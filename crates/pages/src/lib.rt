@@ -3,6 +3,7 @@
 
 ghost use Rattle.std.specs.Prelude.{◌≡◌, ℕ, ◌≤◌, List, length};
 ghost use Rattle.pages.specs.Pages.{word_at, Put};
+ghost use Rattle.pages.specs.ByIndex.{SoundByIndex, LogPagesByIndex, LogPutByIndex, OneLogPut, FirstBadByIndex, ImageFaultsInOrder, ImagePagesByIndex};
 
 mod fault;
 mod flat;
@@ -54,3 +55,15 @@ pub trait Store: Reader {
     fn put(&mut self, page: u32, word: u32) -> Result<(), StoreFault>
         ensures { Put Self.Reader.pages wrote self.old page word result self.new };
 }
+
+// Logs, puts to a log and images told by index, which is just what the rules compute. The function does nothing: its contract
+// is what is proved.
+pub fn pages_by_index()
+    ensures sound { SoundByIndex }
+    ensures log { LogPagesByIndex }
+    ensures put { LogPutByIndex }
+    ensures one_put { OneLogPut }
+    ensures bad { FirstBadByIndex }
+    ensures faults { ImageFaultsInOrder }
+    ensures image { ImagePagesByIndex }
+{}
