@@ -14,6 +14,7 @@ use Rattle.script.specs.declared.ScriptFault.{ScriptFault}
 use Rattle.script.specs.declared.ScriptFault.TheVariants.{Unfit, Undefined}
 use Rattle.script.specs.Script.{register, fit, size_told, steps_told, code_at, operand_at, step_with, combining, defined, step_at, then_step, steps_to, decoded}
 use Rattle.script.specs.Laws.{leaves_out, Decodes}
+use Rattle.script.specs.Positions.{IsFit}
 
 -- fit bytes of n steps, fact by fact
 pub record Fit (bs : List ℕ) (n : ℕ) : Type 0 where
@@ -22,11 +23,15 @@ pub record Fit (bs : List ℕ) (n : ℕ) : Type 0 where
   pub few : n ≤ 16
   pub long : length bs ≡ 1 + 5 * n
 
+pub fit-is : (bs : List ℕ) → fit bs ≡ true → IsFit bs
+fit-is bs h =
+    let n = steps_told bs in
+    let p = and_parts (leb 1 n) (leb n 16 && eqb (length bs) (1 + 5 * n)) h in
+    let q = and_parts (leb n 16) (eqb (length bs) (1 + 5 * n)) p.1 in
+    record { some = leb-true 1 n p.0; few = leb-true n 16 q.0; long = eqb-true (length bs) (1 + 5 * n) q.1 }
+
 pub fit_facts : (bs : List ℕ) → fit bs ≡ true → Fit bs (steps_told bs)
-fit_facts bs h =
-    let k = steps_told bs in
-    let b = and_parts (leb k 16) (eqb (length bs) (1 + 5 * k)) (and_parts (leb 1 k) (leb k 16 && eqb (length bs) (1 + 5 * k)) h).1 in
-    record { fits = h; size = refl; few = leb-true k 16 b.0; long = eqb-true (length bs) (1 + 5 * k) b.1 }
+fit_facts bs h = let f = fit-is bs h in record { fits = h; size = refl; few = f.few; long = f.long }
 
 pub size_facts : (bs : List ℕ) (n : ℕ) → size_told bs ≡ Some n → Fit bs n
 size_facts bs n =

@@ -16,7 +16,7 @@ use Rattle.script.specs.declared.ScriptFault.TheVariants.{Unfit, Undefined}
 use Rattle.script.specs.Script.{register, index, fit, steps_told, code_at, operand_at, step_with, combining, defined, step_of, step_at, decoded}
 use Rattle.script.specs.Laws.{Decodes}
 use Rattle.script.specs.Positions.{code, code_of, Takes, number_at, StandsAt, IsFit, IsScript, FirstBare, ComesTo}
-use Rattle.script.proofs.Decoded.{decodes}
+use Rattle.script.proofs.Decoded.{decodes, fit-is}
 
 -- registers and their numbers
 register-index : (r : Register) → register (index r) ≡ r
@@ -171,13 +171,6 @@ module _ (bs : List ℕ) (i : ℕ) where
 -- one step at most stands at a place
 one_step : (bs : List ℕ) (i : ℕ) (s t : Step) → StandsAt bs (slice_index bs 0) i s → StandsAt bs (slice_index bs 0) i t → s ≡ t
 one_step bs i s t h k = same_Some s t (sym (stood bs i s h) ∙ stood bs i t k)
-
-fit-is : (bs : List ℕ) → fit bs ≡ true → IsFit bs
-fit-is bs h =
-    let n = steps_told bs in
-    let p = and_parts (leb 1 n) (leb n 16 && eqb (length bs) (1 + 5 * n)) h in
-    let q = and_parts (leb n 16) (eqb (length bs) (1 + 5 * n)) p.1 in
-    record { some = leb-true 1 n p.0; few = leb-true n 16 q.0; long = eqb-true (length bs) (1 + 5 * n) q.1 }
 
 is-fit : (bs : List ℕ) → IsFit bs → fit bs ≡ true
 is-fit bs f =
