@@ -3,3 +3,4 @@ pub mod Logs
 pub mod Images
 pub mod Chains
 pub mod ByIndex
+pub mod Loads

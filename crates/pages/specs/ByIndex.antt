@@ -1,7 +1,15 @@
--- Logs, puts to a log and images told by index, and not by carrying entries in one after another. Assumes nothing.
-use Rattle.std.specs.Prelude.{◌≡◌, ℕ, ◌+◌, ◌-◌, ◌*◌, ◌<◌, ◌≤◌, true, ◌≢◌, ◌⊎◌, ◌↔◌, List, [], length, Some, None, slice_index}
+-- Logs, puts to a log and images told by index, and not by carrying entries in one after another; and that a load leaves
+-- one outcome. Assumes nothing.
+use Rattle.std.specs.Prelude.{Result, ◌≡◌, ℕ, ◌+◌, ◌-◌, ◌*◌, ◌<◌, ◌≤◌, true, ◌≢◌, ◌⊎◌, ◌↔◌, List, [], length, Some, None, slice_index}
 use Rattle.pages.specs.Log.{size_word, capacity, used, entry_page, entry_word, sound, log_pages, log_put}
 use Rattle.pages.specs.Image.{image_size, image_named, number_offset, named_page, named_word, first_bad, image_fault, image_pages}
+use Rattle.pages.specs.Load.{Loaded, ImageLoaded}
+use Rattle.pages.specs.Flat.{flat_pages, flat_wrote}
+use Rattle.pages.specs.LogStore.{log_wrote}
+use Rattle.pages.specs.declared.flat.Flat.{Flat}
+use Rattle.pages.specs.declared.log.Log.{Log}
+use Rattle.pages.specs.declared.fault.LoadFault.{LoadFault}
+use Rattle.pages.specs.declared.fault.ImageLoadFault.{ImageLoadFault}
 use Rattle.pages.specs.declared.fault.ImageFault.{ImageFault}
 use Rattle.pages.specs.declared.fault.ImageFault.TheVariants.{Truncated, TooManyPages, TooManyNamed, WrongLength, BadNumber}
 
@@ -16,8 +24,8 @@ abbrev pub LastWord : (ℕ → ℕ) → (ℕ → ℕ) → ℕ → ℕ → ℕ �
 LastWord page word n p old w =
     ((i : ℕ) × LastNaming page n p i × (w ≡ word i)) ⊎ (((i : ℕ) → i < n → page i ≢ p) × (w ≡ old))
 
--- a sound layout: N is at most 4,096, C is 1 to 4,096, U is at most C, there are exactly 3 + N + 2C words, and each used
--- entry names a page below N
+-- a sound layout: up to 4,096 pages, room for 1 to 4,096 entries and no more of them used, not a word besides the sizes, the
+-- base words and the entries, and each used entry names a page that there is
 pub record IsSound (ws : List ℕ) : Type 0 where
   pub few : size_word ws ≤ 4096
   pub some : 1 ≤ capacity ws
@@ -139,3 +147,24 @@ pub record ImagePages (bs pages : List ℕ) : Type 0 where
 
 abbrev pub ImagePagesByIndex : Type 0
 ImagePagesByIndex = (bs pages : List ℕ) → NoneFits bs → (image_pages bs ≡ pages) ↔ ImagePages bs pages
+
+-- two loads of the same words, or of the same bytes, into the same store end alike, in what is seen of it: they give the same
+-- answer and leave the same words
+module _ {S : Type 0} (pages : S → List ℕ) (wrote : S → ℕ → ℕ → S → Type 0) (seen : S → List ℕ) where
+  abbrev pub OneLoad : Type 0
+  OneLoad =
+      (words : List ℕ) (s t u : S) (r q : Result (Unit {0}) LoadFault)
+      → Loaded pages wrote words s r t → Loaded pages wrote words s q u → (r ≡ q) × (seen t ≡ seen u)
+
+  abbrev pub OneImageLoad : Type 0
+  OneImageLoad =
+      (bs : List ℕ) (s t u : S) (r q : Result (Unit {0}) ImageLoadFault)
+      → ImageLoaded pages wrote bs s r t → ImageLoaded pages wrote bs s q u → (r ≡ q) × (seen t ≡ seen u)
+
+-- so it is with every word behind a flat store, and behind a log
+abbrev pub LoadsEndAlike : Type 0
+LoadsEndAlike =
+    OneLoad (λ (s : Flat). flat_pages s.words.now) flat_wrote (λ s. s.words.now)
+    × OneImageLoad (λ (s : Flat). flat_pages s.words.now) flat_wrote (λ s. s.words.now)
+    × OneLoad (λ (s : Log). log_pages s.words.now) log_wrote (λ s. s.words.now)
+    × OneImageLoad (λ (s : Log). log_pages s.words.now) log_wrote (λ s. s.words.now)

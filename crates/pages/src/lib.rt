@@ -3,7 +3,7 @@
 
 ghost use Rattle.std.specs.Prelude.{◌≡◌, ℕ, ◌≤◌, List, length};
 ghost use Rattle.pages.specs.Pages.{word_at, Put};
-ghost use Rattle.pages.specs.ByIndex.{SoundByIndex, LogPagesByIndex, LogPutByIndex, OneLogPut, FirstBadByIndex, ImageFaultsInOrder, ImagePagesByIndex};
+ghost use Rattle.pages.specs.ByIndex.{SoundByIndex, LogPagesByIndex, LogPutByIndex, OneLogPut, FirstBadByIndex, ImageFaultsInOrder, ImagePagesByIndex, LoadsEndAlike};
 
 mod fault;
 mod flat;
@@ -66,4 +66,5 @@ pub fn pages_by_index()
     ensures bad { FirstBadByIndex }
     ensures faults { ImageFaultsInOrder }
     ensures image { ImagePagesByIndex }
+    ensures loads { LoadsEndAlike }
 {}
