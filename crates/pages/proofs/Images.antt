@@ -37,7 +37,7 @@ module _ (bs : List ℕ) where
       ap (first_bad bs) (sym e) ∙ stays (suc i) (n - suc i) i here
 
 -- where all of the first n page numbers are good, each is
-pub or_this-none : (good : Bool) (i : ℕ) (found : Option ℕ) → or_this good i found ≡ None → (found ≡ None) × (good ≡ true)
+or_this-none : (good : Bool) (i : ℕ) (found : Option ℕ) → or_this good i found ≡ None → (found ≡ None) × (good ≡ true)
 or_this-none good i (Some k) e = absurd (cc)
 or_this-none good i None e =
     (refl, elim good as (λ b. cond b None (Some i) ≡ None → b ≡ true) [ true ↦ λ x. refl | false ↦ λ x. absurd (cc) ] e)

@@ -112,10 +112,10 @@ module _ (ws : List ℕ) (p w : ℕ) (h : sound ws ≡ true) (room : used ws < c
   pub length-appended : length (appended ws p w) ≡ length ws
   length-appended = length-set _ 2 _ ∙ length-set _ (3 + size_word ws + capacity ws + used ws) w ∙ length-set ws _ p
 
-  pub size_kept : size_word (appended ws p w) ≡ size_word ws
+  size_kept : size_word (appended ws p w) ≡ size_word ws
   size_kept = elsewhere 0 (λ e. omega arith) (λ e. omega arith) (λ e. omega arith)
 
-  pub capacity-kept : capacity (appended ws p w) ≡ capacity ws
+  capacity-kept : capacity (appended ws p w) ≡ capacity ws
   capacity-kept = elsewhere 1 (λ e. omega arith) (λ e. omega arith) (λ e. omega arith)
 
   pub used_more : used (appended ws p w) ≡ suc (used ws)
