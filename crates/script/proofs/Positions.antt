@@ -15,7 +15,7 @@ use Rattle.script.specs.declared.ScriptFault.{ScriptFault}
 use Rattle.script.specs.declared.ScriptFault.TheVariants.{Unfit, Undefined}
 use Rattle.script.specs.Script.{register, index, fit, steps_told, code_at, operand_at, step_with, combining, defined, step_of, step_at, decoded}
 use Rattle.script.specs.Laws.{Decodes}
-use Rattle.script.specs.Positions.{code, code_of, Takes, number_at, StandsAt, IsFit, IsScript, FirstBare, ComesTo}
+use Rattle.script.specs.Positions.{code, code_of, Takes, number_at, StandsAt, IsFit, IsScript, FirstBare, DecodesTo}
 use Rattle.script.proofs.Decoded.{decodes, fit-is}
 
 -- registers and their numbers
@@ -184,7 +184,7 @@ module _ (bs : List ℕ) where
   some_step (Some s) k e h = (s, stands bs k s e)
   some_step None k e h = absurd (true≢false (sym h))
 
-  comes : (r : Result (List Step) ScriptFault) → Decodes bs r → ComesTo bs r
+  comes : (r : Result (List Step) ScriptFault) → Decodes bs r → DecodesTo bs r
   comes (Ok ss) d = record {
     fits = fit-is bs d.0;
     count = d.1;
@@ -222,7 +222,7 @@ module _ (bs : List ℕ) where
       (cases_order i k)
 
   -- bytes come to one thing
-  one_thing : (r t : Result (List Step) ScriptFault) → ComesTo bs r → ComesTo bs t → r ≡ t
+  one_thing : (r t : Result (List Step) ScriptFault) → DecodesTo bs r → DecodesTo bs t → r ≡ t
   one_thing (Ok ss) (Ok ts) h k = ap Ok (same_steps ss ts h k)
   one_thing (Ok ss) (Err (Unfit n)) h k = absurd (k.0 h.fits)
   one_thing (Ok ss) (Err (Undefined i)) h k = absurd (all_stand ss i h k)
@@ -233,8 +233,8 @@ module _ (bs : List ℕ) where
   one_thing (Err (Undefined i)) (Err (Unfit m)) h k = absurd (k.0 h.fits)
   one_thing (Err (Undefined i)) (Err (Undefined k)) h c = ap (λ x. Err (Undefined x)) (same_bare i k h c)
 
-  pub comes_to : (r : Result (List Step) ScriptFault) → decoded bs ≡ r → ComesTo bs r
+  pub comes_to : (r : Result (List Step) ScriptFault) → decoded bs ≡ r → DecodesTo bs r
   comes_to r e = comes r (subst (Decodes bs) e (decodes bs))
 
-  pub decoded_by_position : (r : Result (List Step) ScriptFault) → (decoded bs ≡ r) ↔ ComesTo bs r
+  pub decoded_by_position : (r : Result (List Step) ScriptFault) → (decoded bs ≡ r) ↔ DecodesTo bs r
   decoded_by_position r = (comes_to r, λ h. one_thing (decoded bs) r (comes_to (decoded bs) refl) h)

@@ -64,11 +64,11 @@ pub record FirstBare (bs : List ℕ) (i : ℕ) : Type 0 where
   pub before : (k : ℕ) → k < i → (s : Step) × StandsAt bs (slice_index bs 0) k s
 
 -- what bytes come to: a script of these steps; or, where they are not fit, their length; or the first place with no step
-abbrev pub ComesTo : List ℕ → Result (List Step) ScriptFault → Type 0
-ComesTo bs (Ok ss) = IsScript bs ss
-ComesTo bs (Err (Unfit n)) = (IsFit bs → ⊥) × (n ≡ length bs)
-ComesTo bs (Err (Undefined i)) = FirstBare bs i
+abbrev pub DecodesTo : List ℕ → Result (List Step) ScriptFault → Type 0
+DecodesTo bs (Ok ss) = IsScript bs ss
+DecodesTo bs (Err (Unfit n)) = (IsFit bs → ⊥) × (n ≡ length bs)
+DecodesTo bs (Err (Undefined i)) = FirstBare bs i
 
 -- decoding gives just what the bytes come to, which is one thing
 abbrev pub DecodedByPosition : List ℕ → Type 0
-DecodedByPosition bs = (r : Result (List Step) ScriptFault) → (decoded bs ≡ r) ↔ ComesTo bs r
+DecodedByPosition bs = (r : Result (List Step) ScriptFault) → (decoded bs ≡ r) ↔ DecodesTo bs r
