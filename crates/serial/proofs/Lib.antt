@@ -17,3 +17,6 @@ pub mod Refused
 pub mod Outcomes
 pub mod BothWays
 pub mod Histories
+pub mod PageLists
+pub mod OneStep
+pub mod WriteLaws

@@ -10,3 +10,6 @@ pub mod Words
 pub mod Refused
 pub mod Outcome
 pub mod Shown
+pub mod OneStep
+pub mod WriteLaws
+pub mod Guesses

@@ -5,6 +5,9 @@
 ghost use Rattle.std.specs.Prelude.{ℕ, List};
 ghost use Rattle.serial.specs.Book.{EveryListBooked};
 ghost use Rattle.serial.specs.Laws.{StepsRise, RunsDetermined, ReadsGrow, UnreadReached, StandFound};
+ghost use Rattle.serial.specs.Guesses.{ShadowsGuess, SpoiledByReads};
+ghost use Rattle.serial.specs.OneStep.{StepsComeTo, StepsHaveOneOutcome, RunsFit, StoreReadsInWords, WritesInWords};
+ghost use Rattle.serial.specs.WriteLaws.{WritesTold, StandsOnce, StaysWritten, LastWritten, ReadsOwnWord, PutsInWords};
 ghost use Rattle.serial.specs.Sound.{EnginesStaySound};
 ghost use Rattle.serial.specs.Words.{FreshInWords, RelationsFixEngine, TestsByEntry, PicksFurthest, AccountsInWords, TurnsChangeOnly, DeclinedChangesNothing};
 ghost use Rattle.serial.specs.Refused.{FaultsTold};
@@ -60,4 +63,36 @@ pub fn rules_in_words()
     ensures accounts { AccountsInWords }
     ensures change { TurnsChangeOnly }
     ensures sound { EnginesStaySound }
+{}
+
+// What one step comes to, in words: what it reads or writes, what is recorded, and what stays. The function does nothing:
+// its contract is what is proved.
+pub fn steps_in_words()
+    ensures told { StepsComeTo }
+    ensures one { StepsHaveOneOutcome }
+    ensures fit { RunsFit }
+    ensures reads { StoreReadsInWords }
+    ensures writes { WritesInWords }
+{}
+
+// The laws of writes: what stands on a run's own list, and what its puts leave. The function does nothing: its contract is
+// what is proved.
+pub fn writes_are_lawful()
+    ensures told { WritesTold }
+    ensures once { StandsOnce }
+    ensures stays { StaysWritten }
+    ensures last { LastWritten }
+    ensures reads { ReadsOwnWord }
+    ensures puts { PutsInWords }
+{}
+
+// What shadows are for, at every moment of any list of calls. The function does nothing: its contract is what is proved.
+pub fn shadows_guess()
+    ensures { ShadowsGuess }
+{}
+
+// The engine's test by recorded reads finds just what a commit spoils. The function does nothing: its contract is what is
+// proved.
+pub fn spoiled_by_reads()
+    ensures { SpoiledByReads }
 {}

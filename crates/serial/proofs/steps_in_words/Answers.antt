@@ -1,0 +1,12 @@
+use Rattle.serial.proofs.OneStep.{steps_come_to, steps_have_one_outcome, store_reads_in_words, writes_in_words}
+use Rattle.serial.proofs.WriteLaws.{runs_fit}
+use Rattle.serial.proofs.steps_in_words.Goals as goal
+
+pub returns : goal.returns
+returns c = record {
+  told = steps_come_to;
+  one = steps_have_one_outcome;
+  fit = runs_fit;
+  reads = store_reads_in_words;
+  writes = writes_in_words;
+}

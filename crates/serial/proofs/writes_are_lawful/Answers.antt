@@ -1,0 +1,13 @@
+use Rattle.serial.proofs.PageLists.{puts_in_words}
+use Rattle.serial.proofs.WriteLaws.{writes_told, stands_once, stays_written, last_written, reads_own_word}
+use Rattle.serial.proofs.writes_are_lawful.Goals as goal
+
+pub returns : goal.returns
+returns c = record {
+  told = writes_told;
+  once = stands_once;
+  stays = stays_written;
+  last = last_written;
+  reads = reads_own_word;
+  puts = puts_in_words;
+}

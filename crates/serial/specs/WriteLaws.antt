@@ -1,0 +1,71 @@
+-- Laws of writes: what stands on the own list of a run, and what its puts leave. Assumes nothing.
+use Rattle.std.specs.Prelude.{◌≡◌, ℕ, ◌<◌, ◌≤◌, ◌≢◌, ◌↔◌, List, [], ◌∷◌, length, Some, slice_index}
+use Rattle.std.specs.List.{slice_get}
+use Rattle.pages.specs.Pages.{entry}
+use Rattle.pages.specs.declared.WriteEntry.{WriteEntry}
+use Rattle.script.specs.declared.Register.{Register}
+use Rattle.script.specs.declared.Step.{Step}
+use Rattle.serial.specs.Machine.{Meaning, Steps, Stand, start, holds}
+use Rattle.serial.specs.Alone.{put_all}
+use Rattle.serial.specs.Laws.{Next, Leads}
+use Rattle.serial.specs.OneStep.{Stands, IsOff, Once, Reads, Writes}
+
+-- the next step at s writes w to page p
+abbrev pub WritesNext : Steps → Stand → ℕ → ℕ → Type 0
+WritesNext script s p w = (st : Step) × (slice_get script s.step ≡ Some st) × Writes st s p w
+
+module _ (ar : Meaning) (script : Steps) (pages : List ℕ) where
+  -- t is reached from s, and these are the pages and words written on the way, in order of time
+  pub data Wrote : Stand → Stand → List WriteEntry → Type 0 where
+    nothing : {s : Stand} → Wrote s s []
+    this : {s t u : Stand} {ws : List WriteEntry} (p w : ℕ) → Next ar script pages s t → WritesNext script s p w
+        → Wrote t u ws → Wrote s u (entry p w ∷ ws)
+    none_here : {s t u : Stand} {ws : List WriteEntry} → Next ar script pages s t → ((p w : ℕ) → WritesNext script s p w → ⊥)
+        → Wrote t u ws → Wrote s u ws
+
+-- every run has its writes
+abbrev pub WritesTold : Type 0
+WritesTold =
+    (ar : Meaning) (script : Steps) (pages : List ℕ) (s t : Stand)
+    → Leads ar script pages s t ↔ ((ws : List WriteEntry) × Wrote ar script pages s t ws)
+
+-- of the writes, the last that names the page has this word
+abbrev pub IsLast : List WriteEntry → ℕ → ℕ → Type 0
+IsLast ws p w =
+    (i : ℕ) × (slice_get ws i ≡ Some (entry p w))
+    × ((j : ℕ) (later : WriteEntry) → i < j → slice_get ws j ≡ Some later → later.page ≢ p)
+
+-- a page stands on the own list once
+abbrev pub StandsOnce : Type 0
+StandsOnce =
+    (ar : Meaning) (script : Steps) (pages : List ℕ) (s : Stand) → Leads ar script pages start s → Once s.own
+
+-- what is on the list stays on it
+abbrev pub StaysWritten : Type 0
+StaysWritten =
+    (ar : Meaning) (script : Steps) (pages : List ℕ) (s t : Stand) (p w : ℕ)
+    → Leads ar script pages start s → Leads ar script pages start t → s.step ≤ t.step
+    → Stands s.own p w → (later : ℕ) × Stands t.own p later
+
+-- just the pages that the run has written are on the list, each with the word that was written last
+abbrev pub LastWritten : Type 0
+LastWritten =
+    (ar : Meaning) (script : Steps) (pages : List ℕ) (s : Stand) (ws : List WriteEntry) (p w : ℕ)
+    → Wrote ar script pages start s ws → Stands s.own p w ↔ IsLast ws p w
+
+-- a read of a page on the list takes that word, whatever the store holds, and is not recorded
+abbrev pub ReadsOwnWord : Type 0
+ReadsOwnWord =
+    (ar : Meaning) (script : Steps) (pages : List ℕ) (s : Stand) (st : Step) (a : Register) (p w : ℕ)
+    → Leads ar script pages start s → slice_get script s.step ≡ Some st → Reads st s a p → Stands s.own p w
+    → (t : Stand) × Next ar script pages s t × (holds t a ≡ w) × (t.reads ≡ s.reads)
+
+-- after the puts of a list on which a page stands once, each page of it that there is has its word, every other is as it
+-- was, and there are as many pages as before
+pub record PutsLeave (own : List WriteEntry) (pages : List ℕ) (pages' : List ℕ) : Type 0 where
+  pub size : length pages' ≡ length pages
+  pub listed : (p w : ℕ) → Stands own p w → p < length pages → slice_index pages' p ≡ w
+  pub others : (p : ℕ) → IsOff own p → slice_index pages' p ≡ slice_index pages p
+
+abbrev pub PutsInWords : Type 0
+PutsInWords = (own : List WriteEntry) (pages : List ℕ) → Once own → PutsLeave own pages (put_all own pages)
