@@ -1,10 +1,10 @@
 -- One step is what the words say, and nothing else. Assumes nothing.
-use Rattle.std.proofs.Common.{◌≡◌, ℕ, zero, suc, ◌+◌, ◌%◌, ◌^◌, ◌<◌, ◌≤◌, Bool, true, false, cond, eqb, ltb, ◌≢◌, ◌⊎◌, List, [], ◌∷◌, ◌++◌, length, get_or, set, Some, None, Option, sym, refl, ap, ◌∙◌, subst, inl, inr, ⊎_elim, arith, length-set, get_or-set_same, get_or-set_other}
+use Rattle.std.proofs.Common.{◌≡◌, ℕ, zero, suc, ◌+◌, ◌%◌, ◌^◌, ◌<◌, ◌≤◌, cond, eqb, ltb, ◌≢◌, ◌⊎◌, List, [], ◌∷◌, length, get_or, set, Some, None, Option, sym, refl, ap, ◌∙◌, subst, inl, inr, ⊎_elim, arith, length-set, get_or-set_same, get_or-set_other}
 use Rattle.std.specs.List.{slice_get}
 use Rattle.std.proofs.lemmas.List.{ext_get_or}
-use Rattle.std.proofs.lemmas.Bool.{cases_Bool, cases_eq, cases_lt, cond-true, cond-false, lt-ltb, le-ltb, eq-eqb, ne_eqb}
+use Rattle.std.proofs.lemmas.Bool.{cases_eq, cases_lt, cond-true, cond-false, lt-ltb, le-ltb, eq-eqb, ne_eqb}
+use Rattle.std.proofs.lemmas.Option.{slice_get_within}
 use Rattle.arithmetic.specs.declared.Operation.{Operation}
-use Rattle.pages.specs.Pages.{entry}
 use Rattle.pages.specs.declared.WriteEntry.{WriteEntry}
 use Rattle.script.specs.Script.{register, index}
 use Rattle.script.specs.declared.Register.{Register}
@@ -13,8 +13,9 @@ use Rattle.script.specs.declared.Action.{Action}
 use Rattle.script.specs.declared.Action.TheVariants.{Read, ReadIndexed, Write, WriteIndexed, Set, Combine, Skip}
 use Rattle.script.specs.declared.Step.{Step}
 use Rattle.serial.specs.declared.ReadEntry.{ReadEntry}
-use Rattle.serial.specs.Machine.{Meaning, Steps, Stand, start, holds, written, write, Effect, reading, writing, setting, leaving, does_action, effect, with_register, recorded, with_write, Taken, moved, off_pages, take_read, take_effect, takes, page_read, page_written, unless_own, from_store, store_read, write_of}
-use Rattle.serial.specs.OneStep.{Stands, IsOff, Once, HasFour, Reads, Writes, Sets, LeavesOut, RegisterTakes, ListTakes, ComesTo, StepsComeTo, StepsHaveOneOutcome, StoreReadsInWords, WritesInWords}
+use Rattle.serial.specs.Machine.{Meaning, Stand, start, holds, written, reading, writing, setting, leaving, does_action, effect, with_register, recorded, with_write, Taken, moved, off_pages, take_read, take_effect, takes, page_read, page_written, unless_own, from_store, store_read, write_of}
+use Rattle.serial.specs.Alone.{try_step, next}
+use Rattle.serial.specs.OneStep.{IsOff, Once, HasFour, Reads, Writes, Sets, LeavesOut, RegisterTakes, ComesTo, StepsComeTo, StepsHaveOneOutcome, NextSo, NextInWords, Begins, StoreReadsInWords, WritesInWords}
 use Rattle.serial.proofs.Table.{none_is_some}
 use Rattle.serial.proofs.PageLists.{Found, Missing, looked, off_told, stands_told, write-takes, takes_one_way}
 
@@ -223,11 +224,49 @@ module _ (ar : Meaning) (pages : List ℕ) (st : Step) (s : Stand) where
         let n = y.left_out k h in
         m.1 ∙ ap moved (same_stand m.0 n.0 (m.2 ∙ sym n.2) (m.3 ∙ sym n.3) (m.4 ∙ sym n.4) (m.5 ∙ sym n.5)) ∙ sym n.1
 
-pub steps_come_to : StepsComeTo
-steps_come_to ar pages st s four once = comes_to ar pages st s four once
-
 pub steps_have_one_outcome : StepsHaveOneOutcome
 steps_have_one_outcome ar pages st s d d' x y = one_by ar pages st s d d' x y (kind ar st s)
+
+pub steps_come_to : StepsComeTo
+steps_come_to ar pages st s d four once = (
+  λ e. subst (ComesTo ar pages st s) e (comes_to ar pages st s four once),
+  λ x. steps_have_one_outcome ar pages st s (takes ar pages st s) d (comes_to ar pages st s four once) x,
+)
+
+-- the next step
+past_none : {X : Type 0} (xs : List X) (i : ℕ) → slice_get xs i ≡ None → length xs ≤ i
+past_none [] i h = omega arith
+past_none (x ∷ xs) zero h = none_is_some x (sym h)
+past_none (x ∷ xs) (suc i) h = let l = past_none xs i h in omega arith
+
+pub next_in_words : NextInWords
+next_in_words ar script pages s four once = by (slice_get script s.step) refl
+  where
+    by : (o : Option Step) → slice_get script s.step ≡ o → NextSo ar script pages s
+    by None q = record {
+      taken = λ d. (λ h. none_is_some d (sym (ap (try_step ar pages s) q) ∙ h), λ x. none_is_some x.0 (sym q ∙ x.1));
+      ended = (λ h. past_none script s.step q, λ l. ap (try_step ar pages s) q);
+    }
+    by (Some st) q =
+        let next_is : next ar script pages s ≡ Some (takes ar pages st s) = ap (try_step ar pages s) q in
+        record {
+          taken = λ d. (
+            λ h. let e : takes ar pages st s ≡ d = let z : Some (takes ar pages st s) ≡ Some d = sym next_is ∙ h in cc in (st, q, (steps_come_to ar pages st s d four once).0 e),
+            λ x.
+                let same : st ≡ x.0 = let z : Some st ≡ Some x.0 = sym q ∙ x.1 in cc in
+                next_is ∙ ap Some ((steps_come_to ar pages st s d four once).1 (subst (λ y. ComesTo ar pages y s d) (sym same) x.2)),
+          );
+          ended = (λ h. none_is_some (takes ar pages st s) (sym h ∙ next_is), λ l. let k = slice_get_within script s.step st q in absurd (omega arith));
+        }
+
+pub start_begins : Begins start
+start_begins = record { step = refl; four = refl; zeros = zeros; unread = refl; unwritten = refl }
+  where
+    zeros : (r : Register) → holds start r ≡ 0
+    zeros R0 = refl
+    zeros R1 = refl
+    zeros R2 = refl
+    zeros R3 = refl
 
 -- store reads
 unless-own : (own : List WriteEntry) (q p : ℕ) → unless_own q (written own q) ≡ Some p → (q ≡ p) × IsOff own q

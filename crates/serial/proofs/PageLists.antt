@@ -1,13 +1,13 @@
 -- Pages on a list of writes: where they stand, with which word, and what a write and puts do. Assumes nothing.
-use Rattle.std.proofs.Common.{◌≡◌, ℕ, zero, suc, ◌<◌, Bool, true, false, cond, ◌||◌, eqb, ◌≢◌, ◌⊎◌, List, [], ◌∷◌, ◌++◌, length, get_or, set, Some, None, Option, sym, refl, ap, ◌∙◌, subst, inl, inr, ⊎_elim, arith, length-set, get_or-set_same}
+use Rattle.std.proofs.Common.{◌≡◌, ℕ, zero, suc, ◌<◌, Bool, true, false, cond, eqb, ◌≢◌, ◌⊎◌, List, [], ◌∷◌, ◌++◌, length, get_or, set, Some, None, Option, sym, refl, ap, ◌∙◌, subst, inl, inr, ⊎_elim, arith, length-set, get_or-set_same}
 use Rattle.std.specs.List.{slice_get}
-use Rattle.std.proofs.lemmas.Bool.{cases_Bool, cases_eq, cond-true, cond-false, or_left, or_right, or_from, eqb-true, eqb-false, eq-eqb, ne_eqb, true≢false, both_ways}
+use Rattle.std.proofs.lemmas.Bool.{cases_Bool, cases_eq, cond-true, cond-false, or_left, or_right, or_from, eqb-true, eqb-false, ne_eqb, both_ways}
 use Rattle.pages.specs.Pages.{entry}
 use Rattle.pages.specs.declared.WriteEntry.{WriteEntry}
 use Rattle.serial.specs.Machine.{written, write, has_written}
 use Rattle.serial.specs.Alone.{put_all}
 use Rattle.serial.specs.OneStep.{Stands, IsOff, Once, ListTakes}
-use Rattle.serial.specs.WriteLaws.{PutsLeave, PutsInWords}
+use Rattle.serial.specs.WriteLaws.{PutsInWords}
 use Rattle.serial.proofs.Table.{none_is_some}
 use Rattle.serial.proofs.Steps.{written_more}
 use Rattle.serial.proofs.Runs.{length-put_all, put_all_other}

@@ -1,19 +1,20 @@
 -- Laws of writes: a run's own list is told by the run's writes. Assumes nothing.
-use Rattle.std.proofs.Common.{◌≡◌, ℕ, zero, suc, ◌+◌, ◌<◌, ◌≤◌, Bool, true, false, cond, eqb, ltb, ◌≢◌, ◌⊎◌, List, [], ◌∷◌, length, get_or, set, Some, None, Option, sym, refl, ap, ◌∙◌, subst, inl, inr, ⊎_elim, arith, length-set}
+use Rattle.std.proofs.Common.{◌≡◌, ℕ, zero, suc, ◌+◌, ◌<◌, Bool, true, false, cond, eqb, ltb, ◌≢◌, ◌⊎◌, List, [], ◌∷◌, length, get_or, set, Some, None, Option, sym, refl, ap, ◌∙◌, subst, inl, inr, ⊎_elim, arith, length-set}
 use Rattle.std.specs.List.{slice_get}
-use Rattle.std.proofs.lemmas.Bool.{cases_Bool, cond-true, cond-false, eqb-true, eqb-false, eq-eqb}
+use Rattle.std.proofs.lemmas.Bool.{cases_Bool, cases_eq, cond-true, cond-false, or_cases, or_right, eqb-true, eqb-false, eq-eqb, true≢false}
+use Rattle.std.proofs.lemmas.Option.{same_Some, slice_get_within, slice_get-get_or}
 use Rattle.pages.specs.Pages.{entry}
 use Rattle.pages.specs.declared.WriteEntry.{WriteEntry}
 use Rattle.script.specs.Script.{index}
 use Rattle.script.specs.declared.Register.{Register}
 use Rattle.script.specs.declared.Step.{Step}
-use Rattle.serial.specs.Machine.{Meaning, Steps, Stand, start, written, write, Effect, reading, writing, setting, leaving, effect, with_register, recorded, with_write, moved, off_pages, take_read, take_effect, takes}
+use Rattle.serial.specs.Machine.{Meaning, Steps, Stand, start, written, write, has_written, Effect, reading, writing, setting, leaving, effect, with_register, recorded, with_write, moved, off_pages, take_read, take_effect, takes}
 use Rattle.serial.specs.Alone.{try_step}
 use Rattle.serial.specs.Laws.{Next, Leads, here, more}
-use Rattle.serial.specs.OneStep.{Stands, Once, HasFour, Writes, RunsFit}
-use Rattle.serial.specs.WriteLaws.{WritesNext, Wrote, nothing, this, none_here, WritesTold, IsLast, StandsOnce, StaysWritten, LastWritten, ReadsOwnWord}
+use Rattle.serial.specs.OneStep.{Once, HasFour, FourRegisters}
+use Rattle.serial.specs.WriteLaws.{WritesNext, Wrote, nothing, this, none_here, WritesTold, IsLast, StandsOnce, StaysWritten, LastWritten, InOrder, ReadsOwnWord}
 use Rattle.serial.proofs.Table.{none_is_some, some_or_none}
-use Rattle.serial.proofs.Steps.{off_moved}
+use Rattle.serial.proofs.Steps.{written_more, off_moved}
 use Rattle.serial.proofs.Runs.{stepped, reached_later}
 use Rattle.serial.proofs.Conflicts.{own_grows}
 use Rattle.serial.proofs.PageLists.{stands_found, has_found, stands_told, told_stands, once_write, written-write}
@@ -103,9 +104,9 @@ module _ (ar : Meaning) (script : Steps) (pages : List ℕ) where
       let l = left pages s t (effect ar x.step s) (taken_at s t x.step x.at h) in (
         l.as_many ∙ four,
         ⊎_elim
-        (λ (wr : Written s t). subst Once (sym (write-next s t wr.page wr.word h wr.next)) (once_write s.own wr.page wr.word once))
-        (λ (un : Unwritten s t). subst Once (sym un.own) once)
-        (writes_or_not s t h),
+            (λ (wr : Written s t). subst Once (sym (write-next s t wr.page wr.word h wr.next)) (once_write s.own wr.page wr.word once))
+            (λ (un : Unwritten s t). subst Once (sym un.own) once)
+            (writes_or_not s t h),
       )
 
   leads-fits : {s t : Stand} → Leads ar script pages s t → HasFour s → Once s.own → HasFour t × Once t.own
@@ -148,23 +149,110 @@ or_else_none : (a : Option ℕ) → or_else a None ≡ a
 or_else_none None = refl
 or_else_none (Some x) = refl
 
--- an own list has the last word written, else what it had
-wrote-word : (ar : Meaning) (script : Steps) (pages : List ℕ) {s t : Stand} {ws : List WriteEntry} → Wrote ar script pages s t ws → (p : ℕ) → written t.own p ≡ or_else (last_word ws p) (written s.own p)
-wrote-word ar script pages nothing p = refl
-wrote-word ar script pages {s} (this {t = m} {ws = ws} q w h wn rest) p =
-    wrote-word ar script pages rest p
-    ∙ ap (or_else (last_word ws p)) (ap (λ own. written own p) (write-next ar script pages s m q w h wn) ∙ written-write s.own q w p)
-    ∙ or_else_cond (last_word ws p) (written s.own p) (eqb q p) w
-wrote-word ar script pages {s} (none_here {t = m} {ws = ws} h none rest) p =
-    wrote-word ar script pages rest p
-    ∙ ap (λ own. or_else (last_word ws p) (written own p)) own_same
+-- a list after writes, in order of time
+abbrev written_all : List WriteEntry → List WriteEntry → List WriteEntry
+written_all own [] = own
+written_all own (e ∷ ws) = written_all (write own e.page e.word) ws
+
+wrote-own : (ar : Meaning) (script : Steps) (pages : List ℕ) {s t : Stand} {ws : List WriteEntry} → Wrote ar script pages s t ws → t.own ≡ written_all s.own ws
+wrote-own ar script pages nothing = refl
+wrote-own ar script pages {s} (this {t = m} {ws = ws} p w h wn rest) =
+    wrote-own ar script pages rest ∙ ap (λ own. written_all own ws) (write-next ar script pages s m p w h wn)
+wrote-own ar script pages {s} (none_here {t = m} {ws = ws} h none rest) =
+    wrote-own ar script pages rest
+    ∙ ap (λ own. written_all own ws) (⊎_elim
+    (λ (wr : Written ar script pages s m). absurd (none wr.page wr.word wr.next))
+    (λ (un : Unwritten ar script pages s m). un.own)
+    (writes_or_not ar script pages s m h))
+
+-- it has the last word written, else what it had
+written-written_all : (ws own : List WriteEntry) (p : ℕ) → written (written_all own ws) p ≡ or_else (last_word ws p) (written own p)
+written-written_all [] own p = refl
+written-written_all (e ∷ ws) own p =
+    written-written_all ws (write own e.page e.word) p
+    ∙ ap (or_else (last_word ws p)) (written-write own e.page e.word p)
+    ∙ or_else_cond (last_word ws p) (written own p) (eqb e.page p) e.word
+
+-- a page on it stays in its place
+abbrev PlaceHas : List WriteEntry → ℕ → ℕ → Type 0
+PlaceHas own i p = (x : WriteEntry) × (slice_get own i ≡ Some x) × (x.page ≡ p)
+
+write_place : (own : List WriteEntry) (q w i p : ℕ) → PlaceHas own i p → PlaceHas (write own q w) i p
+write_place [] q w i p h = none_is_some h.0 h.1
+write_place (e ∷ es) q w i p h =
+    ⊎_elim
+    (λ (y : eqb e.page q ≡ true). subst (λ xs. PlaceHas xs i p) (sym (cond-true (eqb e.page q) (entry q w ∷ es) (e ∷ write es q w) y)) (replaced i h (eqb-true e.page q y)))
+    (λ (y : eqb e.page q ≡ false). subst (λ xs. PlaceHas xs i p) (sym (cond-false (eqb e.page q) (entry q w ∷ es) (e ∷ write es q w) y)) (kept i h (λ k z. write_place es q w k p z)))
+    (cases_Bool (eqb e.page q))
   where
-    own_same : m.own ≡ s.own
-    own_same =
-        ⊎_elim
-        (λ (wr : Written ar script pages s m). absurd (none wr.page wr.word wr.next))
-        (λ (un : Unwritten ar script pages s m). un.own)
-        (writes_or_not ar script pages s m h)
+    replaced : (i : ℕ) → PlaceHas (e ∷ es) i p → e.page ≡ q → PlaceHas (entry q w ∷ es) i p
+    replaced zero h same = let x : e ≡ h.0 = let z : Some e ≡ Some h.0 = h.1 in cc in (entry q w, refl, sym same ∙ ap (λ v. v.page) x ∙ h.2)
+    replaced (suc i) h same = h
+
+    kept : (i : ℕ) → PlaceHas (e ∷ es) i p → ((k : ℕ) → PlaceHas es k p → PlaceHas (write es q w) k p) → PlaceHas (e ∷ write es q w) i p
+    kept zero h rest = h
+    kept (suc i) h rest = rest i h
+
+place_stays : (ws own : List WriteEntry) (i p : ℕ) → PlaceHas own i p → PlaceHas (written_all own ws) i p
+place_stays [] own i p h = h
+place_stays (e ∷ ws) own i p h = place_stays ws (write own e.page e.word) i p (write_place own e.page e.word i p h)
+
+once_written : (ws own : List WriteEntry) → Once own → Once (written_all own ws)
+once_written [] own once = once
+once_written (e ∷ ws) own once = once_written ws (write own e.page e.word) (once_write own e.page e.word once)
+
+-- of two places on it, the page of the earlier was on the list before, or was written before each write of the other's
+record Earlier (ws : List WriteEntry) (k p : ℕ) : Type 0 where
+  place : ℕ
+  below : place < k
+  has : PlaceHas ws place p
+
+written_or : (own : List WriteEntry) (p w q : ℕ) → has_written (write own p w) q ≡ true → (has_written own q ≡ true) ⊎ (p ≡ q)
+written_or own p w q h =
+    ⊎_elim (λ (a : has_written own q ≡ true). inl a) (λ (a : eqb p q ≡ true). inr (eqb-true p q a)) (or_cases (has_written own q) (eqb p q) (sym (written_more own p w q) ∙ h))
+
+-- where the first write is of the other's page, the earlier was there before it
+module _ (own : List WriteEntry) (p w : ℕ) (ws : List WriteEntry) (once : Once own) (i j : ℕ) (x y : WriteEntry) (l : i < j) (a : slice_get (written_all (write own p w) ws) i ≡ Some x) (b : slice_get (written_all (write own p w) ws) j ≡ Some y) (page : p ≡ y.page) where
+  all_once : Once (written_all (write own p w) ws)
+  all_once = once_written ws (write own p w) (once_write own p w once)
+
+  -- the page stands at once where it stands in the end
+  stands_at_once : j < length (write own p w)
+  stands_at_once =
+      let now = has_found (write own p w) y.page (written_more own p w y.page ∙ or_right (has_written own y.page) (eqb p y.page) (eq-eqb p y.page page)) in
+      let stayed = place_stays ws (write own p w) now.stands.0 y.page (entry y.page now.word, now.stands.1, refl) in
+      let inside : now.stands.0 < length (write own p w) = slice_get_within (write own p w) now.stands.0 (entry y.page now.word) now.stands.1 in
+      ⊎_elim
+      (λ (q : now.stands.0 ≡ j). subst (λ n. n < length (write own p w)) q inside)
+      (λ (q : now.stands.0 ≡ j → ⊥). absurd (all_once now.stands.0 j stayed.0 y q stayed.1 b stayed.2))
+      (cases_eq now.stands.0 j)
+
+  earlier_before : has_written own x.page ≡ true
+  earlier_before =
+      let z = get_or (write own p w) i (entry p w) in
+      let there : slice_get (write own p w) i ≡ Some z = slice_get-get_or (write own p w) i (entry p w) (let k = stands_at_once in omega arith) in
+      let stayed = place_stays ws (write own p w) i z.page (z, there, refl) in
+      let is_x : z.page ≡ x.page = sym stayed.2 ∙ ap (λ v. v.page) (same_Some stayed.0 x (sym stayed.1 ∙ a)) in
+      let now = stands_found (write own p w) x.page z.word (i, there ∙ ap (λ q. Some (entry q z.word)) is_x) in
+      ⊎_elim
+      (λ (g : has_written own x.page ≡ true). g)
+      (λ (g : p ≡ x.page). absurd (all_once i j x y (λ q. omega arith) a b (sym g ∙ page)))
+      (written_or own p w x.page now.has)
+
+earlier_first : (ws own : List WriteEntry) → Once own → (i j : ℕ) (x y : WriteEntry) → i < j → slice_get (written_all own ws) i ≡ Some x → slice_get (written_all own ws) j ≡ Some y
+    → (k : ℕ) → PlaceHas ws k y.page → Earlier ws k x.page ⊎ (has_written own x.page ≡ true)
+earlier_first [] own once i j x y l a b k h = none_is_some h.0 h.1
+earlier_first (e ∷ ws) own once i j x y l a b zero h =
+    inr (earlier_before own e.page e.word ws once i j x y l a b (ap (λ v. v.page) (same_Some e h.0 h.1) ∙ h.2))
+earlier_first (e ∷ ws) own once i j x y l a b (suc k) h =
+    ⊎_elim
+    (λ (f : Earlier ws k x.page). inl (record { place = suc f.place; below = let n = f.below in omega arith; has = f.has }))
+    (λ (f : has_written (write own e.page e.word) x.page ≡ true).
+    ⊎_elim
+    (λ (g : has_written own x.page ≡ true). inr g)
+    (λ (g : e.page ≡ x.page). inl (record { place = 0; below = omega arith; has = (e, refl, g) }))
+    (written_or own e.page e.word x.page f))
+    (earlier_first ws (write own e.page e.word) (once_write own e.page e.word once) i j x y l a b k h)
 
 -- the last word is that of the last entry that names the page
 none_parts : (o : Option ℕ) (b : Bool) (v : ℕ) → or_else o (cond b (Some v) None) ≡ None → (o ≡ None) × (b ≡ false)
@@ -218,8 +306,8 @@ is_last (e ∷ es) p w zero h after =
 is_last (e ∷ es) p w (suc i) h after =
     ap (λ o. or_else o (cond (eqb e.page p) (Some e.word) None)) (is_last es p w i h (λ j x l k. after (suc j) x (omega arith) k))
 
-pub runs_fit : RunsFit
-runs_fit ar script pages s l = run-fits ar script pages s l
+pub four_registers : FourRegisters
+four_registers ar script pages s l = (run-fits ar script pages s l).0
 
 pub writes_told : WritesTold
 writes_told ar script pages s t = (λ l. wrote ar script pages l, λ x. wrote-leads ar script pages x.1)
@@ -234,7 +322,7 @@ stays_written ar script pages s t p w l k le on =
 
 pub last_written : LastWritten
 last_written ar script pages s ws p w x =
-    let told : written s.own p ≡ last_word ws p = wrote-word ar script pages x p ∙ or_else_none (last_word ws p) in
+    let told : written s.own p ≡ last_word ws p = ap (λ own. written own p) (wrote-own ar script pages x) ∙ written-written_all ws [] p ∙ or_else_none (last_word ws p) in
     let once = (run-fits ar script pages s (wrote-leads ar script pages x)).1 in (
       λ on. last_is ws p w (sym told ∙ stands_told s.own once p w on),
       λ last. told_stands s.own p w (told ∙ is_last ws p w last.0 last.1 last.2),
@@ -245,3 +333,11 @@ reads_own_word ar script pages s st a p w l at rd on =
     let fit = run-fits ar script pages s l in
     let m = (comes_to ar pages st s fit.0 fit.1).own_read a p w rd on in
     (m.0, ap (try_step ar pages s) at ∙ ap Some m.1, m.3.taken, m.4)
+
+pub in_order : InOrder
+in_order ar script pages s ws i j x y k later wr l a b c d =
+    let own = wrote-own ar script pages wr in
+    ⊎_elim
+    (λ (f : Earlier ws k x.page). (f.place, f.has.0, f.below, f.has.1, f.has.2))
+    (λ (f : has_written [] x.page ≡ true). absurd (true≢false (sym f)))
+    (earlier_first ws [] (λ i j x y ne a b. none_is_some x a) i j x y l (sym (ap (λ o. slice_get o i) own) ∙ a) (sym (ap (λ o. slice_get o j) own) ∙ b) k (later, c, d))

@@ -1,6 +1,6 @@
--- What one step comes to, in words: which page it reads or writes, what is recorded, and what stays. No definition that
--- computes a step is named here. Assumes nothing.
-use Rattle.std.specs.Prelude.{◌≡◌, ℕ, ◌+◌, ◌%◌, ◌^◌, ◌<◌, ◌≤◌, ◌≢◌, ◌⊎◌, ◌↔◌, List, [], ◌∷◌, ◌++◌, length, Some, Option, slice_index}
+-- What one step comes to, in words: which page it reads or writes, what is recorded, and what stays. The words stand for
+-- themselves; only the laws at the end name definitions that compute a step. Assumes nothing.
+use Rattle.std.specs.Prelude.{◌≡◌, ℕ, ◌+◌, ◌%◌, ◌^◌, ◌<◌, ◌≤◌, ◌≢◌, ◌⊎◌, ◌↔◌, List, [], ◌∷◌, ◌++◌, length, Some, None, Option, slice_index}
 use Rattle.std.specs.List.{slice_get}
 use Rattle.arithmetic.specs.declared.Operation.{Operation}
 use Rattle.pages.specs.Pages.{entry}
@@ -9,6 +9,7 @@ use Rattle.script.specs.declared.Register.{Register}
 use Rattle.script.specs.declared.Action.TheVariants.{Read, ReadIndexed, Write, WriteIndexed, Set, Combine, Skip}
 use Rattle.script.specs.declared.Step.{Step}
 use Rattle.serial.specs.Machine.{Meaning, Steps, Stand, start, holds, Taken, moved, off_pages, takes, store_read, write_of}
+use Rattle.serial.specs.Alone.{next}
 use Rattle.serial.specs.Laws.{Leads}
 
 -- an entry of the list names the page, with this word
@@ -24,6 +25,7 @@ abbrev pub Once : List WriteEntry → Type 0
 Once own =
     (i j : ℕ) (x y : WriteEntry) → i ≢ j → slice_get own i ≡ Some x → slice_get own j ≡ Some y → x.page ≢ y.page
 
+-- there are four registers
 abbrev pub HasFour : Stand → Type 0
 HasFour s = length s.registers ≡ 4
 
@@ -66,7 +68,7 @@ pub record ListTakes (own : List WriteEntry) (p w : ℕ) (own' : List WriteEntry
       → (slice_get own' i ≡ Some (entry p w)) × ((j : ℕ) → j ≢ i → slice_get own' j ≡ slice_get own j)
   pub added : IsOff own p → own' ≡ own ++ (entry p w ∷ [])
 
--- what a step comes to that is taken at s over the pages
+-- what a step comes to that is taken at s over the pages: each field speaks of one kind of step, and says all of it
 pub record ComesTo (ar : Meaning) (pages : List ℕ) (st : Step) (s : Stand) (d : Taken) : Type 0 where
   -- a read of a page on the own list takes the word there, and is not recorded
   pub own_read : (a : Register) (p w : ℕ) → Reads st s a p → Stands s.own p w
@@ -75,41 +77,63 @@ pub record ComesTo (ar : Meaning) (pages : List ℕ) (st : Step) (s : Stand) (d 
   pub read : (a : Register) (p : ℕ) → Reads st s a p → IsOff s.own p → p < length pages
       → (t : Stand) × (d ≡ moved t) × (t.step ≡ s.step + 1) × RegisterTakes s a (slice_index pages p) t
       × (t.reads ≡ s.reads ++ (record { step = s.step; page = p } ∷ [])) × (t.own ≡ s.own)
-  -- a page that is neither on the own list nor in the store is missing
+  -- a page that is neither on the own list nor in the store is missing, and then nothing has moved
   pub none_to_read : (a : Register) (p : ℕ) → Reads st s a p → IsOff s.own p → length pages ≤ p → d ≡ off_pages p
   -- a write of a page of the store goes to the own list
   pub written : (p w : ℕ) → Writes st s p w → p < length pages
       → (t : Stand) × (d ≡ moved t) × (t.step ≡ s.step + 1) × (t.registers ≡ s.registers) × (t.reads ≡ s.reads) × ListTakes s.own p w t.own
   -- a page that is not in the store is missing, even if it is on the own list
   pub none_to_write : (p w : ℕ) → Writes st s p w → length pages ≤ p → d ≡ off_pages p
+  -- a set or a combine changes one register
   pub set : (a : Register) (w : ℕ) → Sets ar st s a w
       → (t : Stand) × (d ≡ moved t) × (t.step ≡ s.step + 1) × RegisterTakes s a w t × (t.reads ≡ s.reads) × (t.own ≡ s.own)
+  -- a skip goes on past the steps that are left out
   pub left_out : (n : ℕ) → LeavesOut st s n
       → (t : Stand) × (d ≡ moved t) × (t.step ≡ s.step + 1 + n) × (t.registers ≡ s.registers) × (t.reads ≡ s.reads) × (t.own ≡ s.own)
 
--- taking a step comes to this
+-- taking a step comes to that and to nothing else, with four registers and a page on the own list once, as every stand of a
+-- run has them
 abbrev pub StepsComeTo : Type 0
 StepsComeTo =
-    (ar : Meaning) (pages : List ℕ) (st : Step) (s : Stand) → HasFour s → Once s.own → ComesTo ar pages st s (takes ar pages st s)
+    (ar : Meaning) (pages : List ℕ) (st : Step) (s : Stand) (d : Taken) → HasFour s → Once s.own
+    → (takes ar pages st s ≡ d) ↔ ComesTo ar pages st s d
 
--- and it leaves nothing open: whatever a step comes to so is one and the same
+-- the words leave nothing open: what a step comes to is one and the same
 abbrev pub StepsHaveOneOutcome : Type 0
 StepsHaveOneOutcome =
     (ar : Meaning) (pages : List ℕ) (st : Step) (s : Stand) (d d' : Taken)
     → ComesTo ar pages st s d → ComesTo ar pages st s d' → d ≡ d'
 
--- every stand of a run has four registers, and an own list on which a page stands once
-abbrev pub RunsFit : Type 0
-RunsFit =
-    (ar : Meaning) (script : Steps) (pages : List ℕ) (s : Stand) → Leads ar script pages start s → HasFour s × Once s.own
+-- the next step is the one of the script at the step where the run stands; past the last there is none
+pub record NextSo (ar : Meaning) (script : Steps) (pages : List ℕ) (s : Stand) : Type 0 where
+  pub taken : (d : Taken) → (next ar script pages s ≡ Some d)
+      ↔ ((st : Step) × (slice_get script s.step ≡ Some st) × ComesTo ar pages st s d)
+  pub ended : (next ar script pages s ≡ None) ↔ (length script ≤ s.step)
 
--- the next step is a store read of just that page that it reads and that is not on the own list
+abbrev pub NextInWords : Type 0
+NextInWords =
+    (ar : Meaning) (script : Steps) (pages : List ℕ) (s : Stand) → HasFour s → Once s.own → NextSo ar script pages s
+
+-- a run begins at step 0, with 0 in each of the four registers, and nothing recorded or written
+pub record Begins (s : Stand) : Type 0 where
+  pub step : s.step ≡ 0
+  pub four : HasFour s
+  pub zeros : (r : Register) → holds s r ≡ 0
+  pub unread : s.reads ≡ []
+  pub unwritten : s.own ≡ []
+
+-- every stand of a run has four registers
+abbrev pub FourRegisters : Type 0
+FourRegisters =
+    (ar : Meaning) (script : Steps) (pages : List ℕ) (s : Stand) → Leads ar script pages start s → HasFour s
+
+-- the next step, where there is one, is a store read of the page that it reads, unless that page is on the own list
 abbrev pub StoreReadsInWords : Type 0
 StoreReadsInWords =
     (next : Option Step) (s : Stand) (p : ℕ)
     → (store_read next s ≡ Some p) ↔ ((st : Step) × (a : Register) × (next ≡ Some st) × Reads st s a p × IsOff s.own p)
 
--- and a write of just that page that it writes
+-- and it is a write of the page that it writes
 abbrev pub WritesInWords : Type 0
 WritesInWords =
     (next : Option Step) (s : Stand) (p : ℕ)

@@ -15,7 +15,7 @@ abbrev pub WritesNext : Steps → Stand → ℕ → ℕ → Type 0
 WritesNext script s p w = (st : Step) × (slice_get script s.step ≡ Some st) × Writes st s p w
 
 module _ (ar : Meaning) (script : Steps) (pages : List ℕ) where
-  -- t is reached from s, and these are the pages and words written on the way, in order of time
+  -- t is reached from s, and these are the pages and words that the steps on the way have written, in order of time
   pub data Wrote : Stand → Stand → List WriteEntry → Type 0 where
     nothing : {s : Stand} → Wrote s s []
     this : {s t u : Stand} {ws : List WriteEntry} (p w : ℕ) → Next ar script pages s t → WritesNext script s p w
@@ -23,7 +23,7 @@ module _ (ar : Meaning) (script : Steps) (pages : List ℕ) where
     none_here : {s t u : Stand} {ws : List WriteEntry} → Next ar script pages s t → ((p w : ℕ) → WritesNext script s p w → ⊥)
         → Wrote t u ws → Wrote s u ws
 
--- every run has its writes
+-- every run has its writes, and nothing else has
 abbrev pub WritesTold : Type 0
 WritesTold =
     (ar : Meaning) (script : Steps) (pages : List ℕ) (s t : Stand)
@@ -40,7 +40,7 @@ abbrev pub StandsOnce : Type 0
 StandsOnce =
     (ar : Meaning) (script : Steps) (pages : List ℕ) (s : Stand) → Leads ar script pages start s → Once s.own
 
--- what is on the list stays on it
+-- a page that is on the list stays on it
 abbrev pub StaysWritten : Type 0
 StaysWritten =
     (ar : Meaning) (script : Steps) (pages : List ℕ) (s t : Stand) (p w : ℕ)
@@ -52,6 +52,16 @@ abbrev pub LastWritten : Type 0
 LastWritten =
     (ar : Meaning) (script : Steps) (pages : List ℕ) (s : Stand) (ws : List WriteEntry) (p w : ℕ)
     → Wrote ar script pages start s ws → Stands s.own p w ↔ IsLast ws p w
+
+-- and the pages stand in order of first write: each write of a page on the list came after a write of every page before it
+-- there
+abbrev pub InOrder : Type 0
+InOrder =
+    (ar : Meaning) (script : Steps) (pages : List ℕ) (s : Stand) (ws : List WriteEntry) (i j : ℕ) (x y : WriteEntry)
+    (k : ℕ) (later : WriteEntry)
+    → Wrote ar script pages start s ws → i < j → slice_get s.own i ≡ Some x → slice_get s.own j ≡ Some y
+    → slice_get ws k ≡ Some later → later.page ≡ y.page
+    → (m : ℕ) × (before : WriteEntry) × (m < k) × (slice_get ws m ≡ Some before) × (before.page ≡ x.page)
 
 -- a read of a page on the list takes that word, whatever the store holds, and is not recorded
 abbrev pub ReadsOwnWord : Type 0

@@ -6,8 +6,9 @@ ghost use Rattle.std.specs.Prelude.{ℕ, List};
 ghost use Rattle.serial.specs.Book.{EveryListBooked};
 ghost use Rattle.serial.specs.Laws.{StepsRise, RunsDetermined, ReadsGrow, UnreadReached, StandFound};
 ghost use Rattle.serial.specs.Guesses.{ShadowsGuess, SpoiledByReads};
-ghost use Rattle.serial.specs.OneStep.{StepsComeTo, StepsHaveOneOutcome, RunsFit, StoreReadsInWords, WritesInWords};
-ghost use Rattle.serial.specs.WriteLaws.{WritesTold, StandsOnce, StaysWritten, LastWritten, ReadsOwnWord, PutsInWords};
+ghost use Rattle.serial.specs.Machine.{start};
+ghost use Rattle.serial.specs.OneStep.{StepsComeTo, StepsHaveOneOutcome, NextInWords, Begins, FourRegisters, StoreReadsInWords, WritesInWords};
+ghost use Rattle.serial.specs.WriteLaws.{WritesTold, StandsOnce, StaysWritten, LastWritten, InOrder, ReadsOwnWord, PutsInWords};
 ghost use Rattle.serial.specs.Sound.{EnginesStaySound};
 ghost use Rattle.serial.specs.Words.{FreshInWords, RelationsFixEngine, TestsByEntry, PicksFurthest, AccountsInWords, TurnsChangeOnly, DeclinedChangesNothing};
 ghost use Rattle.serial.specs.Refused.{FaultsTold};
@@ -70,7 +71,9 @@ pub fn rules_in_words()
 pub fn steps_in_words()
     ensures told { StepsComeTo }
     ensures one { StepsHaveOneOutcome }
-    ensures fit { RunsFit }
+    ensures next { NextInWords }
+    ensures begin { Begins start }
+    ensures four { FourRegisters }
     ensures reads { StoreReadsInWords }
     ensures writes { WritesInWords }
 {}
@@ -82,6 +85,7 @@ pub fn writes_are_lawful()
     ensures once { StandsOnce }
     ensures stays { StaysWritten }
     ensures last { LastWritten }
+    ensures order { InOrder }
     ensures reads { ReadsOwnWord }
     ensures puts { PutsInWords }
 {}

@@ -1,12 +1,14 @@
-use Rattle.serial.proofs.OneStep.{steps_come_to, steps_have_one_outcome, store_reads_in_words, writes_in_words}
-use Rattle.serial.proofs.WriteLaws.{runs_fit}
+use Rattle.serial.proofs.OneStep.{steps_come_to, steps_have_one_outcome, next_in_words, start_begins, store_reads_in_words, writes_in_words}
+use Rattle.serial.proofs.WriteLaws.{four_registers}
 use Rattle.serial.proofs.steps_in_words.Goals as goal
 
 pub returns : goal.returns
 returns c = record {
   told = steps_come_to;
   one = steps_have_one_outcome;
-  fit = runs_fit;
+  next = next_in_words;
+  begin = start_begins;
+  four = four_registers;
   reads = store_reads_in_words;
   writes = writes_in_words;
 }

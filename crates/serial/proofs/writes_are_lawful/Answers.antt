@@ -1,5 +1,5 @@
 use Rattle.serial.proofs.PageLists.{puts_in_words}
-use Rattle.serial.proofs.WriteLaws.{writes_told, stands_once, stays_written, last_written, reads_own_word}
+use Rattle.serial.proofs.WriteLaws.{writes_told, stands_once, stays_written, last_written, in_order, reads_own_word}
 use Rattle.serial.proofs.writes_are_lawful.Goals as goal
 
 pub returns : goal.returns
@@ -8,6 +8,7 @@ returns c = record {
   once = stands_once;
   stays = stays_written;
   last = last_written;
+  order = in_order;
   reads = reads_own_word;
   puts = puts_in_words;
 }
