@@ -1,22 +1,29 @@
 -- What shadows are for, and that recorded reads tell what a commit spoils. Assumes nothing.
-use Rattle.std.proofs.Common.{◌≡◌, ℕ, zero, suc, ◌+◌, ◌<◌, ◌≤◌, true, false, List, [], ◌∷◌, length, Some, sym, refl, ap, ◌∙◌, ⊎_elim, arith}
+use Rattle.std.proofs.Common.{◌≡◌, ℕ, zero, suc, ◌+◌, ◌<◌, ◌≤◌, true, false, eqb, List, [], ◌∷◌, length, Some, None, Option, sym, refl, ap, ◌∙◌, ⊎_elim, arith}
 use Rattle.std.specs.List.{slice_get}
 use Rattle.std.proofs.lemmas.List.Folds.{list_any-append}
-use Rattle.std.proofs.lemmas.Bool.{cases_Bool, cond-true, cond-false, or_left, or_right, or_from, both_ways}
+use Rattle.std.proofs.lemmas.Bool.{cases_Bool, cond-true, cond-false, or_cases, or_left, or_right, or_from, eqb-true, eq-eqb, true≢false, both_ways}
+use Rattle.std.proofs.lemmas.Option.{same_Some}
 use Rattle.pages.specs.declared.WriteEntry.{WriteEntry}
+use Rattle.script.specs.declared.Register.{Register}
+use Rattle.script.specs.declared.Step.{Step}
 use Rattle.serial.specs.declared.ReadEntry.{ReadEntry}
-use Rattle.serial.specs.Machine.{Meaning, Steps, Stand, start, store_read, has_written, has_read_any}
-use Rattle.serial.specs.Alone.{there, next, go_on, first_stand, before_read_of}
+use Rattle.serial.specs.Machine.{Meaning, Steps, Stand, start, store_read, has_read, has_written, has_read_any}
+use Rattle.serial.specs.Alone.{there, next, go_on, first_stand, on_list, before_read_of}
 use Rattle.serial.specs.Laws.{Leads, here, more}
 use Rattle.serial.specs.Rules.{State, fresh, shadow, own_of, after}
-use Rattle.serial.specs.OneStep.{Stands}
-use Rattle.serial.specs.Guesses.{HasRead, HasWritten, Guesses, ShadowsGuess, SpoilsExactly, SpoiledByReads}
-use Rattle.serial.proofs.Table.{some_is}
+use Rattle.serial.specs.OneStep.{Stands, IsOff, Reads}
+use Rattle.serial.specs.Guesses.{HasRead, HasWritten, Guesses, ShadowsGuess, TestsInWords, SpoilsExactly, SpoiledByReads}
+use Rattle.serial.proofs.Table.{none_is_some, some_is}
 use Rattle.serial.proofs.Steps.{noted}
 use Rattle.serial.proofs.Runs.{stepped, leads-rises, leads-ends, reached_later, past_read, first_reached}
 use Rattle.serial.proofs.Conflicts.{noted_any}
 use Rattle.serial.proofs.Calls.{Good, fresh_good, after_good}
-use Rattle.serial.proofs.PageLists.{stands_found}
+use Rattle.serial.proofs.PageLists.{stands_found, has_found}
+use Rattle.serial.proofs.OneStep.{store_reads_in_words}
+
+abbrev read_at : ℕ → ℕ → Option ReadEntry
+read_at step p = Some (record { step = step; page = p })
 
 -- reads that name a page of a list, by the test
 any_read : (rs : List ReadEntry) (es : List WriteEntry) (i step p w : ℕ) → slice_get rs i ≡ Some (record { step = step; page = p }) → Stands es p w → has_read_any rs es ≡ true
@@ -31,6 +38,51 @@ any_read (r ∷ rs) es (suc i) step p w h on = or_right (has_written es r.page) 
 -- a read that a shadow's reads and a leading shadow's list share
 shared : (s lead : Stand) (p : ℕ) → HasRead s p → HasWritten lead p → has_read_any s.reads lead.own ≡ true
 shared s lead p r w = any_read s.reads lead.own r.0 r.1 p w.0 r.2 w.1
+
+-- the tests in words
+read_told : (rs : List ReadEntry) (p : ℕ) → has_read rs p ≡ true → (i : ℕ) × (step : ℕ) × (slice_get rs i ≡ Some (record { step = step; page = p }))
+read_told [] p h = absurd (true≢false (sym h))
+read_told (r ∷ rs) p h =
+    ⊎_elim
+    (λ (a : eqb r.page p ≡ true). (0, r.step, ap (read_at r.step) (eqb-true r.page p a)))
+    (λ (a : has_read rs p ≡ true). let k = read_told rs p a in (suc k.0, k.1, k.2))
+    (or_cases (eqb r.page p) (has_read rs p) h)
+
+told_read : (rs : List ReadEntry) (p i step : ℕ) → slice_get rs i ≡ read_at step p → has_read rs p ≡ true
+told_read [] p i step h = none_is_some (record { step = step; page = p }) h
+told_read (r ∷ rs) p zero step h =
+    or_left (eqb r.page p) (has_read rs p) (eq-eqb r.page p (ap (λ x. x.page) (same_Some r (record { step = step; page = p }) h)))
+told_read (r ∷ rs) p (suc i) step h = or_right (eqb r.page p) (has_read rs p) (told_read rs p i step h)
+
+any_told : (rs : List ReadEntry) (es : List WriteEntry) → has_read_any rs es ≡ true → (p : ℕ) × ((i : ℕ) × (step : ℕ) × (slice_get rs i ≡ Some (record { step = step; page = p }))) × ((w : ℕ) × Stands es p w)
+any_told [] es h = absurd (true≢false (sym h))
+any_told (r ∷ rs) es h =
+    ⊎_elim
+    (λ (a : has_written es r.page ≡ true). let f = has_found es r.page a in (r.page, (0, r.step, refl), (f.word, f.stands)))
+    (λ (a : has_read_any rs es ≡ true). let k = any_told rs es a in (k.0, (suc k.1.0, k.1.1, k.1.2), k.2))
+    (or_cases (has_written es r.page) (has_read_any rs es) h)
+
+module _ (lead : Stand) (script : Steps) (s : Stand) where
+  abbrev BeforeRead : Type 0
+  BeforeRead = (st : Step) × (a : Register) × (p : ℕ) × (slice_get script s.step ≡ Some st) × Reads st s a p × IsOff s.own p × HasWritten lead p
+
+  before_told : (o : Option ℕ) → store_read (slice_get script s.step) s ≡ o → on_list lead.own o ≡ true → BeforeRead
+  before_told None q h = absurd (true≢false (sym h))
+  before_told (Some p) q h =
+      let r = (store_reads_in_words (slice_get script s.step) s p).0 q in
+      let f = has_found lead.own p h in (r.0, r.1, p, r.2, r.3, r.4, (f.word, f.stands))
+
+  told_before : BeforeRead → before_read_of lead.own script s ≡ true
+  told_before x =
+      ap (on_list lead.own) ((store_reads_in_words (slice_get script s.step) s x.2).1 (x.0, x.1, x.3, x.4, x.5)) ∙ (stands_found lead.own x.2 x.6.0 x.6.1).has
+
+pub tests_in_words : TestsInWords
+tests_in_words = record {
+  read = λ s p. (λ h. read_told s.reads p h, λ x. told_read s.reads p x.0 x.1 x.2);
+  written = λ s p. (λ h. let f = has_found s.own p h in (f.word, f.stands), λ x. (stands_found s.own p x.0 x.1).has);
+  read_any = λ s lead. (λ h. any_told s.reads lead.own h, λ x. shared s lead x.0 x.1 x.2);
+  before_read = λ lead script s. (λ h. before_told lead script s (store_read (slice_get script s.step) s) refl h, λ x. told_before lead script s x);
+}
 
 pub good_guesses : (ar : Meaning) (s : State) → Good ar s → Guesses s.engine
 good_guesses ar s g = record {

@@ -4,16 +4,16 @@
 
 ghost use Rattle.std.specs.Prelude.{ℕ, List};
 ghost use Rattle.serial.specs.Book.{EveryListBooked};
+ghost use Rattle.serial.specs.Guesses.{ShadowsGuess, TestsInWords, SpoiledByReads};
 ghost use Rattle.serial.specs.Laws.{StepsRise, RunsDetermined, ReadsGrow, UnreadReached, StandFound};
-ghost use Rattle.serial.specs.Guesses.{ShadowsGuess, SpoiledByReads};
 ghost use Rattle.serial.specs.Machine.{start};
 ghost use Rattle.serial.specs.OneStep.{StepsComeTo, StepsHaveOneOutcome, NextInWords, Begins, FourRegisters, StoreReadsInWords, WritesInWords};
-ghost use Rattle.serial.specs.WriteLaws.{WritesTold, StandsOnce, StaysWritten, LastWritten, InOrder, ReadsOwnWord, PutsInWords};
 ghost use Rattle.serial.specs.Sound.{EnginesStaySound};
 ghost use Rattle.serial.specs.Words.{FreshInWords, RelationsFixEngine, TestsByEntry, PicksFurthest, AccountsInWords, TurnsChangeOnly, DeclinedChangesNothing};
 ghost use Rattle.serial.specs.Refused.{FaultsTold};
 ghost use Rattle.serial.specs.Outcome.{OneOutcome, OneRun, DeclinedExactly, AcceptedExactly, StandInWords, ReadEntryInWords};
 ghost use Rattle.serial.specs.Rules.{set_allowance, begin, turn, commit, abort};
+ghost use Rattle.serial.specs.WriteLaws.{WritesTold, StandsOnce, StaysWritten, LastWritten, InOrder, ReadsOwnWord, PutsInWords};
 
 mod fault;
 
@@ -95,8 +95,9 @@ pub fn shadows_guess()
     ensures { ShadowsGuess }
 {}
 
-// The engine's test by recorded reads finds just what a commit spoils. The function does nothing: its contract is what is
-// proved.
+// The engine's tests of reads against writes, in words, and that the one by recorded reads finds just what a commit spoils.
+// The function does nothing: its contract is what is proved.
 pub fn spoiled_by_reads()
-    ensures { SpoiledByReads }
+    ensures tests { TestsInWords }
+    ensures exact { SpoiledByReads }
 {}
