@@ -1,8 +1,8 @@
 -- What shadows are for, and that recorded reads tell what a commit spoils. Assumes nothing.
-use Rattle.std.proofs.Common.{◌≡◌, ℕ, zero, suc, ◌+◌, ◌<◌, ◌≤◌, true, false, eqb, List, [], ◌∷◌, length, Some, None, Option, sym, refl, ap, ◌∙◌, ⊎_elim, arith}
-use Rattle.std.specs.List.{slice_get}
+use Rattle.std.proofs.Common.{◌≡◌, ℕ, zero, suc, ◌+◌, ◌<◌, ◌≤◌, true, false, eqb, List, [], ◌∷◌, length, is_some, Some, None, Option, sym, refl, ap, ◌∙◌, ⊎_elim, arith}
+use Rattle.std.specs.List.{slice_get, filter}
 use Rattle.std.proofs.lemmas.List.Folds.{list_any-append}
-use Rattle.std.proofs.lemmas.Bool.{cases_Bool, cond-true, cond-false, or_cases, or_left, or_right, or_from, eqb-true, eq-eqb, true≢false, both_ways}
+use Rattle.std.proofs.lemmas.Bool.{cases_Bool, cond-true, cond-false, or_cases, or_left, or_right, or_from, eqb-true, eq-eqb, true≢false, not-true, not_from_false, false_from_ne_true, both_ways}
 use Rattle.std.proofs.lemmas.Option.{same_Some}
 use Rattle.pages.specs.declared.WriteEntry.{WriteEntry}
 use Rattle.script.specs.declared.Register.{Register}
@@ -11,7 +11,7 @@ use Rattle.serial.specs.declared.ReadEntry.{ReadEntry}
 use Rattle.serial.specs.Machine.{Meaning, Steps, Stand, start, store_read, has_read, has_written, has_read_any}
 use Rattle.serial.specs.Alone.{there, next, go_on, first_stand, on_list, before_read_of}
 use Rattle.serial.specs.Laws.{Leads, here, more}
-use Rattle.serial.specs.Rules.{State, fresh, shadow, own_of, after}
+use Rattle.serial.specs.Rules.{Row, State, fresh, shadow, own_of, lead_writes, count, after}
 use Rattle.serial.specs.OneStep.{Stands, IsOff, Reads}
 use Rattle.serial.specs.Guesses.{HasRead, HasWritten, Guesses, ShadowsGuess, TestsInWords, SpoilsExactly, SpoiledByReads}
 use Rattle.serial.proofs.Table.{none_is_some, some_is}
@@ -76,11 +76,22 @@ module _ (lead : Stand) (script : Steps) (s : Stand) where
   told_before x =
       ap (on_list lead.own) ((store_reads_in_words (slice_get script s.step) s x.2).1 (x.0, x.1, x.3, x.4, x.5)) ∙ (stands_found lead.own x.2 x.6.0 x.6.1).has
 
+counted : (cs : Row) → count cs ≡ length (filter (λ s. is_some s) cs)
+counted [] = refl
+counted (None ∷ cs) = counted cs
+counted (Some s ∷ cs) = ap suc (counted cs)
+
 pub tests_in_words : TestsInWords
 tests_in_words = record {
   read = λ s p. (λ h. read_told s.reads p h, λ x. told_read s.reads p x.0 x.1 x.2);
   written = λ s p. (λ h. let f = has_found s.own p h in (f.word, f.stands), λ x. (stands_found s.own p x.0 x.1).has);
   read_any = λ s lead. (λ h. any_told s.reads lead.own h, λ x. shared s lead x.0 x.1 x.2);
+  clean = λ e u s lead h.
+      let reads : has_read_any s.reads (lead_writes e u) ≡ has_read_any s.reads lead.own = ap (λ o. has_read_any s.reads (own_of o)) h in (
+        λ c p r w. both_ways (has_read_any s.reads (lead_writes e u)) (not-true (has_read_any s.reads (lead_writes e u)) c) (reads ∙ shared s lead p r w),
+        λ none. not_from_false (has_read_any s.reads (lead_writes e u)) (false_from_ne_true (has_read_any s.reads (lead_writes e u)) (λ k. let x = any_told s.reads lead.own (sym reads ∙ k) in none x.0 x.1 x.2)),
+      );
+  counted = counted;
   before_read = λ lead script s. (λ h. before_told lead script s (store_read (slice_get script s.step) s) refl h, λ x. told_before lead script s x);
 }
 

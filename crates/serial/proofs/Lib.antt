@@ -8,7 +8,6 @@ pub mod Commits
 pub mod Calls
 pub mod Booking
 pub mod Sound
-pub mod Tests
 pub mod Furthest
 pub mod Relations
 pub mod Words

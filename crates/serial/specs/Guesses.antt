@@ -1,13 +1,13 @@
 -- What shadows are for, and what a commit spoils. Assumes nothing.
-use Rattle.std.specs.Prelude.{◌≡◌, ℕ, ◌<◌, ◌≤◌, true, ◌≢◌, ◌↔◌, List, Some, Ok}
-use Rattle.std.specs.List.{slice_get}
+use Rattle.std.specs.Prelude.{◌≡◌, ℕ, ◌<◌, ◌≤◌, true, ◌≢◌, ◌↔◌, List, length, is_some, Some, Ok}
+use Rattle.std.specs.List.{slice_get, filter}
 use Rattle.pages.specs.declared.WriteEntry.{WriteEntry}
 use Rattle.script.specs.declared.Register.{Register}
 use Rattle.script.specs.declared.Step.{Step}
 use Rattle.serial.specs.declared.fault.Accepted.TheVariants.{Committed}
 use Rattle.serial.specs.Machine.{Meaning, Steps, Stand, has_read, has_written, has_read_any}
 use Rattle.serial.specs.Alone.{there, alone, before_read_of}
-use Rattle.serial.specs.Rules.{Engine, State, fresh, script_of, shadow, Call, commit, does, after}
+use Rattle.serial.specs.Rules.{Row, Engine, State, fresh, script_of, shadow, clean, count, Call, commit, does, after}
 use Rattle.serial.specs.OneStep.{Stands, IsOff, Reads}
 
 -- a recorded read names the page
@@ -34,11 +34,15 @@ abbrev pub ShadowsGuess : Type 0
 ShadowsGuess = (ar : Meaning) (pages : List ℕ) (calls : List Call) → Guesses (after ar calls (fresh pages)).engine
 
 -- the tests that the rules are made of: whether a recorded read names the page; whether the page stands on the own list;
--- whether a recorded read names a page of another's own list; and whether the next step is a store read of a page of a list
+-- whether a recorded read names a page of another's own list; whether a shadow is clean for u; how many shadows a row has;
+-- and whether the next step is a store read of a page of a list
 pub record TestsInWords : Type 0 where
   pub read : (s : Stand) (p : ℕ) → (has_read s.reads p ≡ true) ↔ HasRead s p
   pub written : (s : Stand) (p : ℕ) → (has_written s.own p ≡ true) ↔ HasWritten s p
   pub read_any : (s lead : Stand) → (has_read_any s.reads lead.own ≡ true) ↔ ((p : ℕ) × HasRead s p × HasWritten lead p)
+  pub clean : (e : Engine) (u : ℕ) (s lead : Stand) → shadow e u u ≡ Some lead
+      → (clean e u s ≡ true) ↔ ((p : ℕ) → HasRead s p → HasWritten lead p → ⊥)
+  pub counted : (shadows : Row) → count shadows ≡ length (filter (λ s. is_some s) shadows)
   pub before_read : (lead : Stand) (script : Steps) (s : Stand) → (before_read_of lead.own script s ≡ true)
       ↔ ((st : Step) × (a : Register) × (p : ℕ) × (slice_get script s.step ≡ Some st) × Reads st s a p × IsOff s.own p × HasWritten lead p)
 

@@ -7,11 +7,10 @@
 -- what puts leave are words of `Machine`, `Alone` and of the crate `script`, with laws of their own. To have read a page is to
 -- have it among the recorded reads, and to have written it, to have it on the own list.
 use Rattle.std.specs.Prelude.{◌≡◌, ℕ, suc, ◌<◌, ◌≤◌, Bool, true, false, not, ◌≢◌, ◌⊎◌, ◌↔◌, List, length, is_some, Some, None, Ok, Err, Option, slice_index_or}
-use Rattle.std.specs.List.{slice_get, filter, Any}
+use Rattle.std.specs.List.{slice_get}
 use Rattle.pages.specs.declared.WriteEntry.{WriteEntry}
 use Rattle.script.specs.declared.Register.TheVariants.{R0}
 use Rattle.script.specs.Script.{decoded}
-use Rattle.serial.specs.declared.ReadEntry.{ReadEntry}
 use Rattle.serial.specs.declared.fault.Turned.TheVariants.{Moved, Ended, Waiting}
 use Rattle.serial.specs.declared.fault.Standing.{Standing}
 use Rattle.serial.specs.declared.fault.Standing.TheVariants.{AtEnd, Halted, Ready}
@@ -213,18 +212,6 @@ pub record Fresh (e : Engine) : Type 0 where
 
 abbrev pub FreshInWords : Type 0
 FreshInWords = (e : Engine) → Fresh e ↔ (fresh_engine ≡ e)
-
--- the tests that the words above use, entry by entry: some recorded read names the page; some entry of a list does; some
--- recorded read names the page of some entry; a shadow is clean where none names a page that u's leading shadow has written;
--- and how many places of a row have a shadow
-pub record TestsByEntry : Type 0 where
-  pub read : (reads : List ReadEntry) (p : ℕ) → (has_read reads p ≡ true) ↔ Any (λ r. r.page ≡ p) reads
-  pub written : (list : List WriteEntry) (p : ℕ) → (has_written list p ≡ true) ↔ Any (λ w. w.page ≡ p) list
-  pub common : (reads : List ReadEntry) (list : List WriteEntry)
-      → (has_read_any reads list ≡ true) ↔ Any (λ r. Any (λ w. w.page ≡ r.page) list) reads
-  pub clean : (e : Engine) (u : ℕ) (s lead : Stand) → shadow e u u ≡ Some lead
-      → (clean e u s ≡ true) ↔ (Any (λ r. Any (λ w. w.page ≡ r.page) lead.own) s.reads → ⊥)
-  pub counted : (shadows : Row) → count shadows ≡ length (filter (λ s. is_some s) shadows)
 
 -- accounting by the rules is accounting in words
 abbrev pub AccountsInWords : Type 0

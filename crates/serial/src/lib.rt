@@ -9,7 +9,7 @@ ghost use Rattle.serial.specs.Laws.{StepsRise, RunsDetermined, ReadsGrow, Unread
 ghost use Rattle.serial.specs.Machine.{start};
 ghost use Rattle.serial.specs.OneStep.{StepsComeTo, StepsHaveOneOutcome, NextInWords, Begins, FourRegisters, StoreReadsInWords, WritesInWords};
 ghost use Rattle.serial.specs.Sound.{EnginesStaySound};
-ghost use Rattle.serial.specs.Words.{FreshInWords, RelationsFixEngine, TestsByEntry, PicksFurthest, AccountsInWords, TurnsChangeOnly, DeclinedChangesNothing};
+ghost use Rattle.serial.specs.Words.{FreshInWords, RelationsFixEngine, PicksFurthest, AccountsInWords, TurnsChangeOnly, DeclinedChangesNothing};
 ghost use Rattle.serial.specs.Refused.{FaultsTold};
 ghost use Rattle.serial.specs.Outcome.{OneOutcome, OneRun, DeclinedExactly, AcceptedExactly, StandInWords, ReadEntryInWords};
 ghost use Rattle.serial.specs.Rules.{set_allowance, begin, turn, commit, abort};
@@ -59,7 +59,6 @@ pub fn rules_in_words()
     ensures run { OneRun }
     ensures fresh { FreshInWords }
     ensures fixed { RelationsFixEngine }
-    ensures tests { TestsByEntry }
     ensures furthest { PicksFurthest }
     ensures accounts { AccountsInWords }
     ensures change { TurnsChangeOnly }

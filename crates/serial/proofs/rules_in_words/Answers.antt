@@ -2,7 +2,6 @@ use Rattle.serial.specs.Rules.{set_allowance, begin, turn, commit, abort}
 use Rattle.serial.proofs.Sound.{fresh-sound, does-sound}
 use Rattle.serial.proofs.Furthest.{picks_furthest}
 use Rattle.serial.proofs.Relations.{relations_fix_engine, fresh_in_words}
-use Rattle.serial.proofs.Tests.{tests_by_entry}
 use Rattle.serial.proofs.Words.{accounts_in_words, turns_change_only, declined_changes_nothing}
 use Rattle.serial.proofs.Refused.{faults_told}
 use Rattle.serial.proofs.BothWays.{one_outcome, declined_exactly, accepted_exactly, one_run, stand_in_words, read_entry_in_words}
@@ -24,7 +23,6 @@ returns c = record {
   run = one_run;
   fresh = fresh_in_words;
   fixed = relations_fix_engine;
-  tests = tests_by_entry;
   furthest = picks_furthest;
   accounts = accounts_in_words;
   change = turns_change_only;
