@@ -20,3 +20,4 @@ pub mod PageLists
 pub mod OneStep
 pub mod WriteLaws
 pub mod Guesses
+pub mod Continued

@@ -6,6 +6,7 @@ pub mod Rules
 pub mod Questions
 pub mod Book
 pub mod Sound
+pub mod History
 pub mod Words
 pub mod Refused
 pub mod Outcome
