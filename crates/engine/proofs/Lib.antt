@@ -14,3 +14,4 @@ pub mod Offs
 pub mod Called
 pub mod Booked
 pub mod Asked
+pub mod Continues

@@ -4,12 +4,23 @@ use Rattle.pages.specs.Pages.{Chain, fault_at}
 use Rattle.pages.specs.declared.WriteEntry.{WriteEntry}
 use Rattle.script.specs.declared.Register.TheVariants.{R0}
 use Rattle.script.specs.declared.ScriptFault.{ScriptFault}
+use Rattle.script.specs.Script.{script_cause, script_returned}
 use Rattle.serial.specs.Machine.{Meaning, Steps, holds, Taken, moved, off_pages}
 use Rattle.serial.specs.Alone.{Reached, there, fault, past_end, whole_run, put_all}
 use Rattle.engine.specs.View.{stand_of}
 use Rattle.engine.specs.declared.alone.AloneFault.{AloneFault}
 use Rattle.engine.specs.declared.alone.AloneFault.TheVariants.{Script, Step}
 use Rattle.engine.specs.declared.shadow.Shadow.{Shadow}
+
+-- a fault's number: 5 and 6, bytes that are no script; 9, a step for a page that the store does not have
+abbrev pub alone_cause : AloneFault → ℕ
+alone_cause (Script f) = script_cause f
+alone_cause (Step n f) = 9
+
+-- and its values: those of a script's fault; the step and the page, since there is no slot
+abbrev pub alone_returned : AloneFault → List ℕ
+alone_returned (Script f) = script_returned f
+alone_returned (Step n f) = n ∷ f.page ∷ []
 
 -- every page of the list is below n
 abbrev pub Inside : ℕ → List WriteEntry → Type 0

@@ -3,6 +3,8 @@ use Rattle.std.specs.Prelude.{◌≡◌, ℕ, List, Ok, Err, Result}
 use Rattle.pages.specs.Pages.{Chain}
 use Rattle.pages.specs.declared.WriteEntry.{WriteEntry}
 use Rattle.serial.specs.declared.fault.CallFault.{CallFault}
+use Rattle.serial.specs.declared.fault.Turned.{Turned}
+use Rattle.serial.specs.declared.fault.Turned.TheVariants.{Moved, Ended, Waiting}
 use Rattle.serial.specs.declared.fault.Accepted.{Accepted}
 use Rattle.serial.specs.declared.fault.Accepted.TheVariants.{Committed}
 use Rattle.serial.specs.Faults.{Answer}
@@ -27,3 +29,10 @@ committing x = Committed x.0 x.1
 abbrev pub PutsList : {S : Type 0} → (S → ℕ → ℕ → S → Type 0) → List WriteEntry → S → Result (ℕ × ℕ) CallFault → S → Type 0
 PutsList wrote own s (Ok x) t = Chain wrote s own t
 PutsList wrote own s (Err fault) t = t ≡ s
+
+-- what holds of a turn that is accepted and takes no step
+abbrev pub OnNoStep : Result Turned CallFault → Type 0 → Type 0
+OnNoStep (Ok Moved) P = Unit {0}
+OnNoStep (Ok Ended) P = P
+OnNoStep (Ok Waiting) P = P
+OnNoStep (Err fault) P = Unit {0}

@@ -4,5 +4,6 @@ pub mod BySlot
 pub mod Alone
 pub mod Table
 pub mod Calls
+pub mod History
 pub mod Booking
 pub mod Named

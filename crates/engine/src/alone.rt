@@ -7,12 +7,13 @@ ghost use Rattle.pages.specs.Pages.{Chain};
 ghost use Rattle.serial.specs.Alone.{put_all as after_puts};
 ghost use Rattle.serial.specs.Machine.{takes};
 ghost use Rattle.engine.specs.View.{stand_of, Room};
-ghost use Rattle.engine.specs.Alone.{Inside, Advanced, Ended, RanAlone};
+ghost use Rattle.engine.specs.Alone.{alone_cause, alone_returned, Inside, Advanced, Ended, RanAlone};
 ghost use Rattle.engine.specs.declared.alone.AloneFault.TheVariants.{Script as NoScript};
 
 use crate::machine::Machine;
 use crate::shadow::Shadow;
 use arithmetic::Arithmetic;
+use basics::Refusal;
 use pages::{Reader, Store, StoreFault, WriteEntry};
 use script::{Register, Script, ScriptFault, Step, decode};
 
@@ -30,6 +31,27 @@ impl From<ScriptFault> for AloneFault {
 
     fn from(fault: ScriptFault) -> AloneFault {
         AloneFault::Script(fault)
+    }
+}
+
+// A step's fault has the number of a turn's, but no slot: it returns the step and the page.
+impl Refusal for AloneFault {
+    ghost cause = { alone_cause };
+
+    ghost returned = { alone_returned };
+
+    fn number(&self) -> u32 {
+        match self {
+            AloneFault::Script(fault) => fault.number(),
+            AloneFault::Step { .. } => 9,
+        }
+    }
+
+    fn value(&self, index: usize) -> Option<usize> {
+        match self {
+            AloneFault::Script(fault) => fault.value(index),
+            AloneFault::Step { step, fault } => [*step, fault.page as usize].get(index).copied(),
+        }
     }
 }
 

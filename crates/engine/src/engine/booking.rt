@@ -1,6 +1,7 @@
 // Lists of calls, and the promise that they book serially.
-ghost use Rattle.std.specs.Prelude.{◌≡◌};
+ghost use Rattle.std.specs.Prelude.{◌≡◌, OnErr};
 ghost use Rattle.serial.specs.Rules.{does, list_put};
+ghost use Rattle.serial.specs.History.{Continued};
 ghost use Rattle.pages.specs.Pages.{Chain};
 ghost use Rattle.engine.specs.Table.{engine_of};
 ghost use Rattle.engine.specs.Calls.{state_of};
@@ -23,6 +24,7 @@ pub enum Call<'a> {
 
 impl Engine {
     // Carries out one call.
+    #[tactic(auto, using(serial::proofs::Continued::continued))]
     pub fn call<S: Store, A: Arithmetic>(
         &mut self,
         call: &Call,
@@ -30,7 +32,12 @@ impl Engine {
         arithmetic: &A,
     ) -> Answer
         ensures rule { does (A.Arithmetic.meaning arithmetic.now) (call_of call.now) (state_of self.old (S.Reader.pages store.old)) ≡ (state_of self.new (S.Reader.pages store.new), result) }
+        ensures history { Continued (A.Arithmetic.meaning arithmetic.now)
+            (state_of self.old (S.Reader.pages store.old)) (call_of call.now) result
+            (state_of self.new (S.Reader.pages store.new)) }
         ensures puts { Chain S.Store.wrote store.old (list_put (engine_of self.old.table) (call_of call.now) result) store.new }
+        ensures declined { OnErr result (self.new.table ≡ self.old.table) }
+        ensures store { OnErr result (store.new ≡ store.old) }
     {
         match call {
             Call::SetAllowance { allowance } => {

@@ -1,10 +1,12 @@
 // The five calls.
 ghost use Rattle.std.specs.Prelude.{◌≡◌, ℕ, List, None, OnErr};
 ghost use Rattle.serial.specs.declared.fault.Accepted.TheVariants.{Allowed, Begun, Took, Aborted};
-ghost use Rattle.serial.specs.Rules.{fresh_engine, lead_writes, first_off, allows, begins, turns, commits, aborts};
+ghost use Rattle.serial.specs.Rules.{fresh_engine, lead_writes, first_off, allows, begins, turns, commits, aborts, set_allowance, begin, turn, commit, abort};
+ghost use Rattle.serial.specs.History.{Continued};
 ghost use Rattle.engine.specs.Table.{engine_of};
 ghost use Rattle.engine.specs.Alone.{Inside};
-ghost use Rattle.engine.specs.Calls.{state_of, answers_by, committing, PutsList};
+ghost use Rattle.engine.specs.Calls.{state_of, answers_by, committing, PutsList, OnNoStep};
+ghost use Rattle.engine.specs.History.{StartedOverAny, ContinuedByAny, ContinuedOverAny};
 
 use super::Engine;
 use crate::alone::put_all;
@@ -29,8 +31,10 @@ fn first_missing(own: &[WriteEntry], size: u32) -> Option<u32>
 // That a refusal leaves the engine as it was is a clause of each call, where its reader looks for it.
 impl Engine {
     // A fresh engine has allowance 2 and all slots closed.
+    #[tactic(auto, using(crate::proofs::Continues::started_any))]
     pub fn new() -> Engine
-        ensures { engine_of result.table ≡ fresh_engine }
+        ensures rule { engine_of result.table ≡ fresh_engine }
+        ensures history { StartedOverAny result }
     {
         Engine {
             table: Table::new(),
@@ -38,8 +42,11 @@ impl Engine {
     }
 
     // Sets the allowance, while no slot is open.
+    #[tactic(auto, using(crate::proofs::Continues::over_any))]
     pub fn set_allowance(&mut self, k: u32) -> Result<(), CallFault>
         ensures rule { (pages : List ℕ) → allows (state_of self.old pages) k ≡ (state_of self.new pages, answers_by (λ _. Allowed) result) }
+        ensures history { ContinuedOverAny self.old (set_allowance k)
+            (answers_by (λ _. Allowed) result) self.new }
         ensures declined { OnErr result (self.new.table ≡ self.old.table) }
     {
         if k < 1 || k > SLOTS as u32 {
@@ -53,8 +60,11 @@ impl Engine {
     }
 
     // Opens a slot with a script.
+    #[tactic(auto, using(crate::proofs::Continues::over_any))]
     pub fn begin(&mut self, slot: u32, script: &[u8]) -> Result<(), CallFault>
         ensures rule { (pages : List ℕ) → begins (state_of self.old pages) slot script.now ≡ (state_of self.new pages, answers_by (λ _. Begun) result) }
+        ensures history { ContinuedOverAny self.old (begin slot script.now)
+            (answers_by (λ _. Begun) result) self.new }
         ensures declined { OnErr result (self.new.table ≡ self.old.table) }
     {
         let t = Slot::try_from(slot)?;
@@ -75,6 +85,11 @@ impl Engine {
         arithmetic: &A,
     ) -> Result<Turned, CallFault>
         ensures rule { turns (A.Arithmetic.meaning arithmetic.now) (state_of self.old (R.Reader.pages reader.now)) slot other ≡ (state_of self.new (R.Reader.pages reader.now), answers_by Took result) }
+        ensures history { Continued (A.Arithmetic.meaning arithmetic.now)
+            (state_of self.old (R.Reader.pages reader.now))
+            (turn slot other) (answers_by Took result)
+            (state_of self.new (R.Reader.pages reader.now)) }
+        ensures no_step { OnNoStep result (self.new.table ≡ self.old.table) }
         ensures declined { OnErr result (self.new.table ≡ self.old.table) }
     {
         let (t, u) = self.table.named(slot, other)?;
@@ -90,8 +105,12 @@ impl Engine {
 
     // Puts the list of a slot's leading shadow, at its end, and closes the slot. Answers register 0 and the number of pages
     // put, as the pair that the project wants.
+    #[tactic(auto, using(crate::proofs::Continues::by_any))]
     pub fn commit<S: Store>(&mut self, slot: u32, store: &mut S) -> Result<(u32, usize), CallFault>
         ensures rule { commits (state_of self.old (S.Reader.pages store.old)) slot ≡ (state_of self.new (S.Reader.pages store.new), answers_by committing result) }
+        ensures history { ContinuedByAny (state_of self.old (S.Reader.pages store.old))
+            (commit slot) (answers_by committing result)
+            (state_of self.new (S.Reader.pages store.new)) }
         ensures puts { PutsList S.Store.wrote (lead_writes (engine_of self.old.table) slot) store.old result store.new }
         ensures declined { OnErr result (self.new.table ≡ self.old.table) }
     {
@@ -113,8 +132,11 @@ impl Engine {
     }
 
     // Closes a slot, and changes no page.
+    #[tactic(auto, using(crate::proofs::Continues::over_any))]
     pub fn abort(&mut self, slot: u32) -> Result<(), CallFault>
         ensures rule { (pages : List ℕ) → aborts (state_of self.old pages) slot ≡ (state_of self.new pages, answers_by (λ _. Aborted) result) }
+        ensures history { ContinuedOverAny self.old (abort slot)
+            (answers_by (λ _. Aborted) result) self.new }
         ensures declined { OnErr result (self.new.table ≡ self.old.table) }
     {
         let t = Slot::try_from(slot)?;

@@ -1,6 +1,7 @@
 use Rattle.std.proofs.Common.{Ok, [], sym, ap, ◌∙◌, rules}
 use Rattle.serial.specs.Machine.{start}
 use Rattle.serial.specs.Rules.{turns, script_of, shadow}
+use Rattle.serial.proofs.Continued.{continued}
 use Rattle.engine.specs.Table.{engine_of}
 use Rattle.engine.specs.Calls.{state_of}
 use Rattle.engine.specs.Named.{NamedBy, script_at, stand_at}
@@ -29,3 +30,18 @@ returns-in_ok-take_turn-in-Ready-clause-rule g c =
     (sym c.in-Ready.ensures) c.take_turn.result c.take_turn.new.self c.take_turn.ensures in
     ap (λ x. turns ar s x c.args.other) (sym by.0) ∙ ap (λ y. turns ar s t y) (sym by.1) ∙ told.rule
     ∙ ap (λ r. (record { engine = engine_of c.take_turn.new.self; pages = pages }, turn_answer r)) c.in_ok-take_turn-in-Ready.was
+
+pub returns-in_ok-take_turn-in-Ready-clause-history : goal.returns-in_ok-take_turn-in-Ready-clause-history
+returns-in_ok-take_turn-in-Ready-clause-history g c = continued _ _ _ _ _ (returns-in_ok-take_turn-in-Ready-clause-rule g c)
+
+pub returns-in_err-take_turn-in-Ready-clause-history : goal.returns-in_err-take_turn-in-Ready-clause-history
+returns-in_err-take_turn-in-Ready-clause-history g c = continued _ _ _ _ _ (search rules)
+
+pub returns-in_err-t-clause-history : goal.returns-in_err-t-clause-history
+returns-in_err-t-clause-history g c = continued _ _ _ _ _ (search rules)
+
+pub returns-in-AtEnd-clause-history : goal.returns-in-AtEnd-clause-history
+returns-in-AtEnd-clause-history g c = continued _ _ _ _ _ (search rules)
+
+pub returns-in-Halted-clause-history : goal.returns-in-Halted-clause-history
+returns-in-Halted-clause-history g c = continued _ _ _ _ _ (search rules)

@@ -1,4 +1,4 @@
-use Rattle.std.proofs.Common.{◌≡◌, ◌+◌, ◌<◌, [], ◌∷◌, ◌++◌, length, get_or, take, drop, sym, ap, ◌∙◌, subst, arith, length-set, length-take, get_or-take, drop-set-lt}
+use Rattle.std.proofs.Common.{◌≡◌, ◌+◌, ◌<◌, [], ◌∷◌, ◌++◌, length, get_or, set, take, drop, sym, ap, ◌∙◌, subst, arith, length-set, length-take, get_or-take, drop-set-lt}
 use Rattle.std.proofs.lemmas.List.{take_more_set, drop-drop}
 use Rattle.pages.specs.Pages.{Chain}
 use Rattle.serial.specs.Rules.{fresh, after, answers, list_put, lists_put}
@@ -7,8 +7,8 @@ use Rattle.serial.proofs.Histories.{chain_then}
 use Rattle.engine.specs.declared.engine.booking.Call.TheVariants.{SetAllowance}
 use Rattle.engine.specs.Table.{engine_of}
 use Rattle.engine.specs.Calls.{state_of}
-use Rattle.engine.specs.Booking.{call_of, first_calls}
-use Rattle.engine.proofs.Booked.{more_state, more_answers, more_lists}
+use Rattle.engine.specs.Booking.{call_of, first_calls, CallsMade}
+use Rattle.engine.proofs.Booked.{one_more, made_push, more_state, more_answers, more_lists}
 use Rattle.engine.proofs.engine.booking.carry_out.Goals as goal
 
 pub loop-i-preserved : goal.loop-i-preserved
@@ -35,6 +35,10 @@ loop-i-preserved g c =
       subst (λ es. Chain g.S.Store.wrote c.args.store.now es c.call.new.store) (more_lists ar first calls i s s' a l inv.0 rule)
           (chain_then g.S.Store.wrote (lists_put ar (first_calls i calls) first) (list_put (engine_of c.loop-i.engine.table) (call_of (get_or calls i (SetAllowance 0))) a) c.args.store.now c.loop-i.store c.call.new.store inv.3 puts),
       length-set c.loop-i.answers i a ∙ inv.4,
+      subst (λ cs. CallsMade pages g.S.Store.wrote ar cs (take (i + 1) (set c.loop-i.answers i a)) c.new-engine.result c.args.store.now c.call.new.self c.call.new.store) (sym (one_more ar first calls i s s' a l inv.0 rule))
+          (subst (λ told. CallsMade pages g.S.Store.wrote ar (first_calls i calls ++ call_of (get_or calls i (SetAllowance 0)) ∷ []) told c.new-engine.result c.args.store.now c.call.new.self c.call.new.store) (sym (take_more_set c.loop-i.answers i a room))
+          (made_push pages g.S.Store.wrote ar (first_calls i calls) (take i c.loop-i.answers) c.new-engine.result c.args.store.now c.loop-i.engine c.loop-i.store (call_of (get_or calls i (SetAllowance 0))) a c.call.new.self c.call.new.store inv.5
+          (record { rule = rule; puts = puts; declined = c.call.ensures.declined; store = c.call.ensures.store }))),
     )
 
 pub returns : goal.returns
@@ -51,5 +55,10 @@ returns g c =
       answered = ap (λ k. take k c.loop-i.answers) (sym n) ∙ inv.1 ∙ ap (λ k. answers ar (first_calls k calls) first) n;
       untouched = ap (λ k. drop k c.loop-i.answers) (sym n) ∙ inv.2 ∙ ap (λ k. drop k c.args.answers.now) n;
       puts = subst (λ k. Chain g.S.Store.wrote c.args.store.now (lists_put ar (first_calls k calls) first) c.loop-i.store) n inv.3;
+      one_by_one = record {
+        first = c.new-engine.result;
+        fresh = c.new-engine.ensures.rule;
+        made = subst (λ k. CallsMade pages g.S.Store.wrote ar (first_calls k calls) (take k c.loop-i.answers) c.new-engine.result c.args.store.now c.loop-i.engine c.loop-i.store) n inv.5;
+      };
       booked = every_list_booked ar (pages c.args.store.now) (first_calls c.min-count.result calls);
     }

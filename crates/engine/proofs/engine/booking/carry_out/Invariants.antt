@@ -2,7 +2,7 @@ use Rattle.std.proofs.Common.{◌≡◌, length, take, drop}
 use Rattle.pages.specs.Pages.{Chain}
 use Rattle.serial.specs.Rules.{fresh, after, answers, lists_put}
 use Rattle.engine.specs.Calls.{state_of}
-use Rattle.engine.specs.Booking.{first_calls}
+use Rattle.engine.specs.Booking.{first_calls, CallsMade}
 use Rattle.engine.proofs.engine.booking.carry_out.Given as goal
 
 abbrev pub invariant-loop-i : goal.invariant-loop-i
@@ -15,3 +15,4 @@ invariant-loop-i g l =
     × (drop l.i l.answers ≡ drop l.i l.initial.answers)
     × Chain g.S.Store.wrote l.initial.store (lists_put ar (first_calls l.i l.calls) first) l.store
     × (length l.answers ≡ length l.initial.answers)
+    × CallsMade pages g.S.Store.wrote ar (first_calls l.i l.calls) (take l.i l.answers) l.initial.engine l.initial.store l.engine l.store
