@@ -1,2 +1,3 @@
 pub mod Host
 pub mod Units
+pub mod History

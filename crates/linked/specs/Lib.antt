@@ -1,3 +1,4 @@
 pub mod Told
+pub mod History
 pub mod Host
 pub mod Handle

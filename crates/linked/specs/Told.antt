@@ -1,5 +1,5 @@
 -- What a host in C is told. Assumes nothing.
-use Rattle.std.specs.Prelude.{ℕ, zero, suc, List, [], ◌∷◌, length, Some, None, Ok, Err, Option, Result}
+use Rattle.std.specs.Prelude.{ℕ, zero, suc, List, [], ◌∷◌, length, Some, None, Ok, Err, Option, Result, slice_index}
 use Rattle.serial.specs.declared.ReadEntry.{ReadEntry}
 use Rattle.serial.specs.declared.fault.CallFault.{CallFault}
 use Rattle.serial.specs.declared.fault.Turned.{Turned}
@@ -73,3 +73,7 @@ unit_told_by (Err fault) = declined fault
 abbrev pub AsItWas : ℕ → Type 0 → Type 0
 AsItWas zero P = Unit {0}
 AsItWas (suc refusal) P = P
+
+-- what holds of a turn whose first value is not 0: of one that tells ended or waiting, and so takes no step
+abbrev pub OnNoStep : Told → Type 0 → Type 0
+OnNoStep t P = AsItWas (slice_index t.values 0) P

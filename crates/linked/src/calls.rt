@@ -1,15 +1,18 @@
 // The five calls.
 ghost use Rattle.std.specs.Prelude.{◌≡◌, ℕ, true, false, List};
-ghost use Rattle.serial.specs.Rules.{lead_writes, allows, begins, turns, commits, aborts};
+ghost use Rattle.serial.specs.Rules.{lead_writes, allows, begins, turns, commits, aborts, set_allowance, begin, turn, commit, abort};
+ghost use Rattle.serial.specs.History.{Continued};
 ghost use Rattle.engine.specs.Table.{engine_of};
 ghost use Rattle.engine.specs.Calls.{state_of, answers_by, committing};
+ghost use Rattle.engine.specs.History.{ContinuedByAny, ContinuedOverAny};
 ghost use Rattle.arithmetic.specs.Words.{delivered};
 ghost use Rattle.pages.specs.Pages.{Chain};
 ghost use Rattle.pages.specs.Flat.{flat_pages};
 ghost use Rattle.pages.specs.Log.{log_pages};
 ghost use Rattle.serial.specs.declared.fault.Accepted.TheVariants.{Took};
 ghost use Rattle.linked.specs.Host.{pages_in, words_put, list_told, arithmetic_named};
-ghost use Rattle.linked.specs.Told.{answer_told, AsItWas, done_told, unit_told_by};
+ghost use Rattle.linked.specs.Told.{answer_told, AsItWas, OnNoStep, done_told, unit_told_by};
+ghost use Rattle.linked.specs.History.{ToldOf};
 
 use crate::handle::Handle;
 use crate::told::{Told, declined, number_of_turned, told_none, told_one, told_two};
@@ -30,6 +33,8 @@ fn told_unit(res: Result<(), CallFault>) -> Told
 #[unsafe(no_mangle)]
 pub extern "C" fn gorsepick_set_allowance(engine: &mut Handle, allowance: u32) -> Told
     ensures rule { (pages : List ℕ) → done_told (allows (state_of engine.old.engine pages) allowance) ≡ (state_of engine.new.engine pages, result) }
+    ensures history { ToldOf (λ a. ContinuedOverAny engine.old.engine (set_allowance allowance)
+        a engine.new.engine) result }
     ensures declined { AsItWas result.refusal (engine.new.engine.table ≡ engine.old.engine.table) }
     ensures place { engine.new.at ≡ engine.old.at }
 {
@@ -39,6 +44,8 @@ pub extern "C" fn gorsepick_set_allowance(engine: &mut Handle, allowance: u32) -
 #[unsafe(no_mangle)]
 pub extern "C" fn gorsepick_begin(engine: &mut Handle, slot: u32, script: &[u8]) -> Told
     ensures rule { (pages : List ℕ) → done_told (begins (state_of engine.old.engine pages) slot script.now) ≡ (state_of engine.new.engine pages, result) }
+    ensures history { ToldOf (λ a. ContinuedOverAny engine.old.engine (begin slot script.now)
+        a engine.new.engine) result }
     ensures declined { AsItWas result.refusal (engine.new.engine.table ≡ engine.old.engine.table) }
     ensures place { engine.new.at ≡ engine.old.at }
 {
@@ -68,6 +75,7 @@ fn told_turn(res: Result<Turned, CallFault>) -> Told
 // A turn with the pages of either store.
 fn turn_with<R: Reader>(engine: &mut Handle, slot: u32, other: u32, reader: &R, flags: bool) -> Told
     ensures rule { done_told (turns (arithmetic_named flags) (state_of engine.old.engine (R.Reader.pages reader.now)) slot other) ≡ (state_of engine.new.engine (R.Reader.pages reader.now), result) }
+    ensures no_step { OnNoStep result (engine.new.engine.table ≡ engine.old.engine.table) }
     ensures declined { AsItWas result.refusal (engine.new.engine.table ≡ engine.old.engine.table) }
     ensures place { engine.new.at ≡ engine.old.at }
 {
@@ -80,6 +88,7 @@ fn turn_with<R: Reader>(engine: &mut Handle, slot: u32, other: u32, reader: &R, 
 fn turn_log(engine: &mut Handle, slot: u32, other: u32, words: &mut [u32], flags: bool) -> Told
     ensures rule { done_told (turns (arithmetic_named flags) (state_of engine.old.engine (pages_in true words.old)) slot other) ≡ (state_of engine.new.engine (pages_in true words.old), result) }
     ensures words { words.new ≡ words.old }
+    ensures no_step { OnNoStep result (engine.new.engine.table ≡ engine.old.engine.table) }
     ensures declined { AsItWas result.refusal (engine.new.engine.table ≡ engine.old.engine.table) }
     ensures place { engine.new.at ≡ engine.old.at }
 {
@@ -90,6 +99,7 @@ fn turn_log(engine: &mut Handle, slot: u32, other: u32, words: &mut [u32], flags
 fn turn_flat(engine: &mut Handle, slot: u32, other: u32, words: &mut [u32], flags: bool) -> Told
     ensures rule { done_told (turns (arithmetic_named flags) (state_of engine.old.engine (pages_in false words.old)) slot other) ≡ (state_of engine.new.engine (pages_in false words.old), result) }
     ensures words { words.new ≡ words.old }
+    ensures no_step { OnNoStep result (engine.new.engine.table ≡ engine.old.engine.table) }
     ensures declined { AsItWas result.refusal (engine.new.engine.table ≡ engine.old.engine.table) }
     ensures place { engine.new.at ≡ engine.old.at }
 {
@@ -106,7 +116,11 @@ pub extern "C" fn gorsepick_turn(
     flags: bool,
 ) -> Told
     ensures rule { done_told (turns (arithmetic_named flags) (state_of engine.old.engine (pages_in log words.old)) slot other) ≡ (state_of engine.new.engine (pages_in log words.old), result) }
+    ensures history { ToldOf (λ a. Continued (arithmetic_named flags)
+        (state_of engine.old.engine (pages_in log words.old)) (turn slot other) a
+        (state_of engine.new.engine (pages_in log words.new))) result }
     ensures words { words.new ≡ words.old }
+    ensures no_step { OnNoStep result (engine.new.engine.table ≡ engine.old.engine.table) }
     ensures declined { AsItWas result.refusal (engine.new.engine.table ≡ engine.old.engine.table) }
     ensures place { engine.new.at ≡ engine.old.at }
 {
@@ -166,6 +180,9 @@ pub extern "C" fn gorsepick_commit(
     log: bool,
 ) -> Told
     ensures rule { done_told (commits (state_of engine.old.engine (pages_in log words.old)) slot) ≡ (state_of engine.new.engine (pages_in log words.new), result) }
+    ensures history { ToldOf (λ a. ContinuedByAny
+        (state_of engine.old.engine (pages_in log words.old)) (commit slot) a
+        (state_of engine.new.engine (pages_in log words.new))) result }
     ensures words { words.new ≡ words_put log (list_told (lead_writes (engine_of engine.old.engine.table) slot) result.refusal) words.old }
     ensures declined { AsItWas result.refusal (engine.new.engine.table ≡ engine.old.engine.table) }
     ensures place { engine.new.at ≡ engine.old.at }
@@ -180,6 +197,8 @@ pub extern "C" fn gorsepick_commit(
 #[unsafe(no_mangle)]
 pub extern "C" fn gorsepick_abort(engine: &mut Handle, slot: u32) -> Told
     ensures rule { (pages : List ℕ) → done_told (aborts (state_of engine.old.engine pages) slot) ≡ (state_of engine.new.engine pages, result) }
+    ensures history { ToldOf (λ a. ContinuedOverAny engine.old.engine (abort slot)
+        a engine.new.engine) result }
     ensures declined { AsItWas result.refusal (engine.new.engine.table ≡ engine.old.engine.table) }
     ensures place { engine.new.at ≡ engine.old.at }
 {

@@ -2,11 +2,10 @@
 ghost use Rattle.std.specs.Prelude.{◌≡◌};
 ghost use Rattle.std.specs.Borrow.{sem};
 ghost use Rattle.std.specs.Ptr.{points_to, uninit_at};
-ghost use Rattle.serial.specs.Rules.{fresh_engine};
-ghost use Rattle.engine.specs.Table.{engine_of};
 ghost use Rattle.engine.specs.contracts.engine.Engine.{the_row as EngineRow};
 ghost use Rattle.engine.specs.declared.engine.Engine.{Engine};
 ghost use Rattle.linked.specs.Host.{engine_bytes};
+ghost use Rattle.linked.specs.History.{MadeFresh};
 
 use engine::Engine;
 use std::marker::Model;
@@ -31,7 +30,7 @@ pub extern "C" fn gorsepick_engine_size() -> usize
 
 // What is written is made apart, so that the proof by hand is about the write alone.
 fn fresh() -> Engine
-    ensures { engine_of result.table ≡ fresh_engine }
+    ensures { MadeFresh result }
 {
     Engine::new()
 }
@@ -39,7 +38,7 @@ fn fresh() -> Engine
 // Makes a fresh engine where there is room: the host has the engine then, and the room no longer.
 #[unsafe(no_mangle)]
 pub extern "C" fn gorsepick_fresh(room: Room)
-    ensures* { ∃ₛ (λ (e : Engine). sem 𝓛 (points_to EngineRow room.at e) ∗ ⌜ engine_of e.table ≡ fresh_engine ⌝) }
+    ensures* { ∃ₛ (λ (e : Engine). sem 𝓛 (points_to EngineRow room.at e) ∗ ⌜ MadeFresh e ⌝) }
 {
     let Room { at } = room;
     unsafe { at.write(fresh()) };

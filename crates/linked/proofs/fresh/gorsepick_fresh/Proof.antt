@@ -1,5 +1,5 @@
 -- A fresh engine is written where there is room: a walk of the MIR by hand.
-use Rattle.std.proofs.Common.{◌≡◌, List, [], ◌∷◌, ◌++◌, refl, sym, ap, ◌∙◌}
+use Rattle.std.proofs.Common.{List, [], ◌∷◌, ◌++◌, refl, sym, ap, ◌∙◌}
 use Rattle.std.proofs.raw_atomic.Walks.{proved_at}
 use base.Fraction.{full_share}
 use base.Logic.{sep, id⊢}
@@ -26,8 +26,7 @@ use denote.Triple.Table.{framed}
 use denote.Triple.Walked.{Stays, walk_of, stay_dropped, says, ends_at}
 use Rattle.engine.specs.declared.engine.Engine.{Engine}
 use Rattle.engine.specs.contracts.engine.Engine.{the_row as E}
-use Rattle.serial.specs.Rules.{fresh_engine}
-use Rattle.engine.specs.Table.{engine_of}
+use Rattle.linked.specs.History.{MadeFresh}
 use Rattle.linked.specs.contracts.fresh.fresh as g
 use Rattle.linked.proofs.fresh.fresh.Met.{met}
 use Rattle.engine.proofs.engine.Engine.TheLaws as laws
@@ -61,11 +60,11 @@ gorsepick_fresh_spec 𝓤 𝓛 𝓜 𝓡 wired =
     nothing ! $ nothing ! $ join ! $ nothing ! $ move ! (1 ∷ 0 ∷ []) $ use2 𝓛 (raw (G.pre z)) (id⊢ 𝓤 _) $
     calls_at ! (framed 𝓤 𝓛.H 𝓜 (tables 𝓤 𝓛.H 𝓜 𝓡 𝓡.env)) G (met 𝓤 𝓛 𝓜 𝓡 (code.calls-linked::fresh::fresh 𝓡.env wired)) z (no_more !) (λ v.
     use1 𝓛 (later (some (λ (r : Engine). (‵ ftrue ⊛ ‵ (E.own_val r (v ∷ []))) ⊛
-    some (λ (ws : Unit {0}). ‵ (lasts g.ended tt tt ws) ⊛ raw (fact 𝓤 (engine_of r.table ≡ fresh_engine)))))) (id⊢ 𝓤 _) $
+    some (λ (ws : Unit {0}). ‵ (lasts g.ended tt tt ws) ⊛ raw (fact 𝓤 (MadeFresh r)))))) (id⊢ 𝓤 _) $
     await ! tt $ pick ! (λ r. split ! $ split ! $ drop ! $
     peeks ! E (Is E) (shows 𝓛 E) r (v ∷ []) (λ is.
     let typed = ((laws.the_row_laws.lawful 𝓛).typed r (v ∷ []) is).0 in
-    move ! (1 ∷ []) $ pick ! (λ ws. split ! $ drop ! $ heard ! (engine_of r.table ≡ fresh_engine) (λ fresh.
+    move ! (1 ∷ []) $ pick ! (λ ws. split ! $ drop ! $ heard ! (MadeFresh r) (λ fresh.
     lands_as ! refl refl typed $
     assigns_last ! (of_opd ! (get ! refl)) (through ! refl (stop !)) (init ! 1 refl typed) $
     exec ! 𝓣.C 𝓣.Λ En (after 2 (code.function).body) (at_ret En Post) $
@@ -75,4 +74,4 @@ gorsepick_fresh_spec 𝓤 𝓛 𝓜 𝓡 wired =
     rewrite ! 0 (λ (p : Ptr). ‵ (lies_at E full_share p r)) (sym e) refl $
     suffices ! _ (ends_at 𝓛 f.ended stayed c y vunit tt (tt, tt) (tt, tt)) $
     feq_i ! _ (vunit ∷ []) _ refl $ nothing ! $ nothing ! $ join ! $ nothing ! $ group ! 3 $ frame ! $
-    show ! (λ (w : Engine). sep 𝓤 (sem 𝓛 (lies_at E full_share room.at w)) (fact 𝓤 (engine_of w.table ≡ fresh_engine))) r $ says ! fresh $ done !))))))))
+    show ! (λ (w : Engine). sep 𝓤 (sem 𝓛 (lies_at E full_share room.at w)) (fact 𝓤 (MadeFresh w))) r $ says ! fresh $ done !))))))))
