@@ -112,8 +112,8 @@ static bool show(gorsepick_answer answer, const char *accepted)
 static void show_pages(store *s)
 {
     printf("pages");
-    uint32_t word;
-    for (uint32_t page = 0; gorsepick_read(s->words, s->length, s->log, page, &word); page++)
+    uint32_t word, missing;
+    for (uint32_t page = 0; gorsepick_read(s->words, s->length, s->log, page, &word, &missing); page++)
         printf(" %u", word);
     printf("\n");
 }
@@ -133,10 +133,10 @@ static void take_store(bool log)
 /* The book starts anew from the store's pages; slots that are open then are not in it. */
 static void start_book(void)
 {
-    uint32_t word;
+    uint32_t word, missing;
     book.length = 0;
     book.log = GORSEPICK_FLAT;
-    while (gorsepick_read(plant.words, plant.length, plant.log, (uint32_t)book.length, &word))
+    while (gorsepick_read(plant.words, plant.length, plant.log, (uint32_t)book.length, &word, &missing))
         book.words[book.length++] = word;
     memset(begun, 0, sizeof begun);
 }
@@ -201,24 +201,24 @@ static bool is(const char *command, const char *name)
 /* The commands on the store. Says whether it was one. */
 static bool store_command(const char *command)
 {
-    uint32_t page, word;
+    uint32_t page, word, missing;
     if (is(command, "flat") || is(command, "log")) {
         take_store(is(command, "log"));
         start_book();
     } else if (is(command, "get")) {
         page = number(strtok(NULL, " "));
-        if (gorsepick_read(plant.words, plant.length, plant.log, page, &word))
+        if (gorsepick_read(plant.words, plant.length, plant.log, page, &word, &missing))
             printf("word %u\n", word);
         else
-            printf("fault %u\n", page);
+            printf("fault %u\n", missing);
     } else if (is(command, "put")) {
         page = number(strtok(NULL, " "));
         word = number(strtok(NULL, " "));
-        if (gorsepick_put(plant.words, plant.length, plant.log, page, word)) {
+        if (gorsepick_put(plant.words, plant.length, plant.log, page, word, &missing)) {
             start_book();
             printf("put\n");
         } else
-            printf("fault %u\n", page);
+            printf("fault %u\n", missing);
     } else if (is(command, "pages")) {
         show_pages(&plant);
     } else if (is(command, "book")) {

@@ -22,13 +22,21 @@ struct Store {
 }
 
 impl Store {
-    fn get(&mut self, page: u32) -> Option<u32> {
-        let mut word = 0;
-        gorsepick::read(&mut self.words, self.log, page, &mut word).then_some(word)
+    /// The word of a page, or as an error the page that is not there.
+    fn get(&mut self, page: u32) -> Result<u32, u32> {
+        let (mut word, mut missing) = (0, 0);
+        let there = gorsepick::read(&mut self.words, self.log, page, &mut word, &mut missing);
+        if there { Ok(word) } else { Err(missing) }
+    }
+
+    fn put(&mut self, page: u32, word: u32) -> Result<(), u32> {
+        let mut missing = 0;
+        let there = gorsepick::put(&mut self.words, self.log, page, word, &mut missing);
+        if there { Ok(()) } else { Err(missing) }
     }
 
     fn pages(&mut self) -> Vec<u32> {
-        (0..gorsepick::size(&mut self.words, self.log)).filter_map(|page| self.get(page)).collect()
+        (0..gorsepick::size(&mut self.words, self.log)).filter_map(|page| self.get(page).ok()).collect()
     }
 }
 
@@ -124,15 +132,16 @@ impl Host {
             }
             "get" => {
                 let page = words.number()?;
-                self.store.get(page).map_or(format!("fault {page}"), |word| format!("word {word}"))
+                self.store.get(page).map_or_else(|missing| format!("fault {missing}"), |word| format!("word {word}"))
             }
             "put" => {
                 let (page, word) = (words.number()?, words.number()?);
-                if gorsepick::put(&mut self.store.words, self.store.log, page, word) {
-                    self.start_book();
-                    "put".to_string()
-                } else {
-                    format!("fault {page}")
+                match self.store.put(page, word) {
+                    Ok(()) => {
+                        self.start_book();
+                        "put".to_string()
+                    }
+                    Err(missing) => format!("fault {missing}"),
                 }
             }
             "pages" => list("pages", &self.store.pages()),

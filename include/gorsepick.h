@@ -9,7 +9,7 @@
  *   - the handle that any other function is given leads to memory in which gorsepick_fresh made an engine, or to a whole copy
  *     of such memory, made between calls, and nothing but these functions has written to it since. What it holds is of no
  *     account to a host, and a host that scribbles over it has no promise left;
- *   - every pointer, `at` and `word` among them, is not null and leads to what its type says, writable where it is not const;
+ *   - every pointer, `at`, `word` and `missing` among them, is not null and leads to what its type says, writable where it is not const;
  *     one with a length beside it leads to that many elements, and is not null even where the length is 0;
  *   - the memory behind two pointers of one call does not overlap, and during a call nothing else uses any of it: no other
  *     thread, signal handler, interrupt or device; and no call is left by longjmp;
@@ -125,12 +125,13 @@ gorsepick_answer gorsepick_read_entry(gorsepick_engine *engine, uint32_t slot, u
 /* The number of pages. The words stay as they were. */
 uint32_t gorsepick_size(uint32_t *words, size_t length, bool log);
 
-/* Reads a page into *word and says true; where the page is not below the size, *word stays and it says false. The words stay
- * as they were. */
-bool gorsepick_read(uint32_t *words, size_t length, bool log, uint32_t page, uint32_t *word);
+/* Reads a page into *word and says true; *missing stays. Where the page is not below the size, *word stays, *missing becomes
+ * the page that is not there, and it says false. The words stay as they were. */
+bool gorsepick_read(uint32_t *words, size_t length, bool log, uint32_t page, uint32_t *word, uint32_t *missing);
 
-/* Puts a word to a page and says true; where the page is not below the size, the words stay and it says false. */
-bool gorsepick_put(uint32_t *words, size_t length, bool log, uint32_t page, uint32_t word);
+/* Puts a word to a page and says true; *missing stays. Where the page is not below the size, the words stay, *missing becomes
+ * the page that is not there, and it says false. */
+bool gorsepick_put(uint32_t *words, size_t length, bool log, uint32_t page, uint32_t word, uint32_t *missing);
 
 #ifdef __cplusplus
 }

@@ -50,8 +50,22 @@ mod library {
         pub fn gorsepick_stand(engine: *mut Handle, slot: u32, other: u32) -> Answer;
         pub fn gorsepick_read_entry(engine: *mut Handle, slot: u32, other: u32, index: usize) -> Answer;
         pub fn gorsepick_size(words: *mut u32, length: usize, log: bool) -> u32;
-        pub fn gorsepick_read(words: *mut u32, length: usize, log: bool, page: u32, word: *mut u32) -> bool;
-        pub fn gorsepick_put(words: *mut u32, length: usize, log: bool, page: u32, word: u32) -> bool;
+        pub fn gorsepick_read(
+            words: *mut u32,
+            length: usize,
+            log: bool,
+            page: u32,
+            word: *mut u32,
+            missing: *mut u32,
+        ) -> bool;
+        pub fn gorsepick_put(
+            words: *mut u32,
+            length: usize,
+            log: bool,
+            page: u32,
+            word: u32,
+            missing: *mut u32,
+        ) -> bool;
     }
 }
 
@@ -115,12 +129,14 @@ pub fn size(words: &mut [u32], log: bool) -> u32 {
     unsafe { library::gorsepick_size(words.as_mut_ptr(), words.len(), log) }
 }
 
-/// Reads a page into `word` and says true, or says false where there is no such page.
-pub fn read(words: &mut [u32], log: bool, page: u32, word: &mut u32) -> bool {
-    unsafe { library::gorsepick_read(words.as_mut_ptr(), words.len(), log, page, word) }
+/// Reads a page into `word` and says true, or tells in `missing` the page that is not there and says false. What is not
+/// written stays.
+pub fn read(words: &mut [u32], log: bool, page: u32, word: &mut u32, missing: &mut u32) -> bool {
+    unsafe { library::gorsepick_read(words.as_mut_ptr(), words.len(), log, page, word, missing) }
 }
 
-/// Puts a word to a page and says true, or says false where there is no such page.
-pub fn put(words: &mut [u32], log: bool, page: u32, word: u32) -> bool {
-    unsafe { library::gorsepick_put(words.as_mut_ptr(), words.len(), log, page, word) }
+/// Puts a word to a page and says true, or tells in `missing` the page that is not there and says false. What is not
+/// written stays.
+pub fn put(words: &mut [u32], log: bool, page: u32, word: u32, missing: &mut u32) -> bool {
+    unsafe { library::gorsepick_put(words.as_mut_ptr(), words.len(), log, page, word, missing) }
 }

@@ -88,7 +88,7 @@ const FEW_ENTRIES: u32 = 16;
 /// Numbers that name no slot, asked for now and then besides those that do.
 const STRANGE: [u32; 2] = [SLOTS as u32, u32::MAX];
 
-/// What a page holds for a read that must not write there.
+/// What stands where a read or a put must not write.
 const UNREAD: u32 = 0x5EED_1E55;
 
 impl Pair {
@@ -123,9 +123,11 @@ impl Pair {
 
     fn put(&mut self, page: u32, word: u32) -> Result<(), Difference> {
         let log = self.store.log;
-        let proved = Linked::put(self.proved_words.all(), log, page, word);
-        let plain = Engine::put(&mut self.store.words, log, page, word);
-        agree(|| format!("whether page {page} was put"), proved, plain)
+        let (mut proved_missing, mut plain_missing) = (UNREAD, UNREAD);
+        let proved = Linked::put(self.proved_words.all(), log, page, word, &mut proved_missing);
+        let plain = Engine::put(&mut self.store.words, log, page, word, &mut plain_missing);
+        agree(|| format!("whether page {page} was put"), proved, plain)?;
+        agree(|| format!("the page told of a put to page {page}"), proved_missing, plain_missing)
     }
 
     fn replace(&mut self, store: Store) {
@@ -175,10 +177,12 @@ impl Pair {
     fn check_page(&mut self, page: u32) -> Result<(), Difference> {
         let log = self.store.log;
         let (mut proved_word, mut plain_word) = (UNREAD, UNREAD);
-        let proved = Linked::read(self.proved_words.all(), log, page, &mut proved_word);
-        let plain = Engine::read(&mut self.store.words, log, page, &mut plain_word);
+        let (mut proved_missing, mut plain_missing) = (UNREAD, UNREAD);
+        let proved = Linked::read(self.proved_words.all(), log, page, &mut proved_word, &mut proved_missing);
+        let plain = Engine::read(&mut self.store.words, log, page, &mut plain_word, &mut plain_missing);
         agree(|| format!("whether page {page} is there"), proved, plain)?;
-        agree(|| format!("the word of page {page}"), proved_word, plain_word)
+        agree(|| format!("the word of page {page}"), proved_word, plain_word)?;
+        agree(|| format!("the page told of a read of page {page}"), proved_missing, plain_missing)
     }
 
     fn check_shadows(&mut self, strange: bool) -> Result<(), Difference> {

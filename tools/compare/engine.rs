@@ -42,8 +42,8 @@ pub trait Interface: Copy {
     fn stand(&mut self, slot: u32, other: u32) -> Answer;
     fn read_entry(&mut self, slot: u32, other: u32, index: usize) -> Answer;
     fn size(words: &mut [u32], log: bool) -> u32;
-    fn read(words: &mut [u32], log: bool, page: u32, word: &mut u32) -> bool;
-    fn put(words: &mut [u32], log: bool, page: u32, word: u32) -> bool;
+    fn read(words: &mut [u32], log: bool, page: u32, word: &mut u32, missing: &mut u32) -> bool;
+    fn put(words: &mut [u32], log: bool, page: u32, word: u32, missing: &mut u32) -> bool;
 }
 
 /// Why a call is declined, with the values that are told.
@@ -816,13 +816,22 @@ impl Interface for Engine {
     }
 
     #[inline(never)]
-    fn read(words: &mut [u32], log: bool, page: u32, word: &mut u32) -> bool {
-        Pages::over(words, log).read(page).map(|found| *word = found).is_some()
+    fn read(words: &mut [u32], log: bool, page: u32, word: &mut u32, missing: &mut u32) -> bool {
+        let found = Pages::over(words, log).read(page);
+        match found {
+            Some(found) => *word = found,
+            None => *missing = page,
+        }
+        found.is_some()
     }
 
     #[inline(never)]
-    fn put(words: &mut [u32], log: bool, page: u32, word: u32) -> bool {
-        Pages::over(words, log).put(page, word)
+    fn put(words: &mut [u32], log: bool, page: u32, word: u32, missing: &mut u32) -> bool {
+        let there = Pages::over(words, log).put(page, word);
+        if !there {
+            *missing = if cfg!(plant = "put-tells-word") { word } else { page };
+        }
+        there
     }
 }
 
@@ -960,13 +969,13 @@ mod tests {
     #[test]
     fn the_log_is_carried_when_full() {
         let mut words = [1, 1, 1, 5, 0, 9];
-        let mut word = 0;
-        assert!(Engine::read(&mut words, true, 0, &mut word));
-        assert_eq!(word, 9);
-        assert!(Engine::put(&mut words, true, 0, 7));
-        assert_eq!(words, [1, 1, 1, 9, 0, 7]);
-        assert!(!Engine::put(&mut words, true, 1, 7));
-        assert_eq!(words, [1, 1, 1, 9, 0, 7]);
+        let (mut word, mut missing) = (0, 5);
+        assert!(Engine::read(&mut words, true, 0, &mut word, &mut missing));
+        assert_eq!((word, missing), (9, 5));
+        assert!(Engine::put(&mut words, true, 0, 7, &mut missing));
+        assert_eq!((words, missing), ([1, 1, 1, 9, 0, 7], 5));
+        assert!(!Engine::put(&mut words, true, 1, 7, &mut missing));
+        assert_eq!((words, missing), ([1, 1, 1, 9, 0, 7], 1));
     }
 
     #[test]

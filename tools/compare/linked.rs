@@ -41,11 +41,11 @@ impl Interface for Linked {
         gorsepick::size(words, log)
     }
 
-    fn read(words: &mut [u32], log: bool, page: u32, word: &mut u32) -> bool {
-        gorsepick::read(words, log, page, word)
+    fn read(words: &mut [u32], log: bool, page: u32, word: &mut u32, missing: &mut u32) -> bool {
+        gorsepick::read(words, log, page, word, missing)
     }
 
-    fn put(words: &mut [u32], log: bool, page: u32, word: u32) -> bool {
-        gorsepick::put(words, log, page, word)
+    fn put(words: &mut [u32], log: bool, page: u32, word: u32, missing: &mut u32) -> bool {
+        gorsepick::put(words, log, page, word, missing)
     }
 }

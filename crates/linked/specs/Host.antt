@@ -45,3 +45,7 @@ abbrev pub PagePut : Bool → ℕ → ℕ → List ℕ → Bool → List ℕ →
 PagePut log page word before said after =
     (said ≡ nat_lt page (length (pages_in log before)))
     × (after ≡ cond (nat_lt page (length (pages_in log before))) (word_put log before page word) before)
+
+-- where a host is told the page of a fault: a page that is not below the size; else what was there stays
+abbrev pub page_missed : List ℕ → ℕ → ℕ → ℕ
+page_missed pages page before = cond (nat_lt page (length pages)) before page

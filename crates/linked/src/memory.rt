@@ -1,8 +1,8 @@
 // The pages of a store in a host's words.
 ghost use Rattle.std.specs.Prelude.{◌≡◌, ℕ, ◌<◌, ◌≤◌, length};
-ghost use Rattle.linked.specs.Host.{pages_in, PageRead, PagePut};
+ghost use Rattle.linked.specs.Host.{pages_in, PageRead, PagePut, page_missed};
 
-use pages::{Flat, Log, Reader, Store};
+use pages::{Flat, Log, Reader, Store, StoreFault};
 
 #[unsafe(no_mangle)]
 pub extern "C" fn gorsepick_size(words: &mut [u32], log: bool) -> u32
@@ -16,10 +16,17 @@ pub extern "C" fn gorsepick_size(words: &mut [u32], log: bool) -> u32
     }
 }
 
-// Reads a page, into `word` where there is such a page.
+// Reads a page into `word`, or tells the page of the fault in `missing`.
 #[unsafe(no_mangle)]
-pub extern "C" fn gorsepick_read(words: &mut [u32], log: bool, page: u32, word: &mut u32) -> bool
+pub extern "C" fn gorsepick_read(
+    words: &mut [u32],
+    log: bool,
+    page: u32,
+    word: &mut u32,
+    missing: &mut u32,
+) -> bool
     ensures read { PageRead (pages_in log words.old) page word.old result word.new }
+    ensures missing { missing.new ≡ page_missed (pages_in log words.old) page missing.old }
     ensures words { words.new ≡ words.old }
 {
     let result = if log {
@@ -32,18 +39,35 @@ pub extern "C" fn gorsepick_read(words: &mut [u32], log: bool, page: u32, word: 
             *word = found;
             true
         }
-        Err(_) => false,
+        Err(StoreFault { page }) => {
+            *missing = page;
+            false
+        }
     }
 }
 
-// Puts a word to a page, where there is such a page.
+// Puts a word to a page, or tells the page of the fault in `missing`.
 #[unsafe(no_mangle)]
-pub extern "C" fn gorsepick_put(words: &mut [u32], log: bool, page: u32, word: u32) -> bool
-    ensures { PagePut log page word words.old result words.new }
+pub extern "C" fn gorsepick_put(
+    words: &mut [u32],
+    log: bool,
+    page: u32,
+    word: u32,
+    missing: &mut u32,
+) -> bool
+    ensures put { PagePut log page word words.old result words.new }
+    ensures missing { missing.new ≡ page_missed (pages_in log words.old) page missing.old }
 {
-    if log {
-        Log::new(words).put(page, word).is_ok()
+    let result = if log {
+        Log::new(words).put(page, word)
     } else {
-        Flat::new(words).put(page, word).is_ok()
+        Flat::new(words).put(page, word)
+    };
+    match result {
+        Ok(()) => true,
+        Err(StoreFault { page }) => {
+            *missing = page;
+            false
+        }
     }
 }
