@@ -126,7 +126,7 @@ gorsepick_answer gorsepick_read_entry(gorsepick_engine *engine, uint32_t slot, u
 uint32_t gorsepick_size(uint32_t *words, size_t length, bool log);
 
 /* Reads a page into *word and says true; *missing stays. Where the page is not below the size, *word stays, *missing becomes
- * the page that is not there, and it says false. The words stay as they were. */
+ * the page that is not there, and it says false. The words stay as they were. `word` and `missing` lead to two places. */
 bool gorsepick_read(uint32_t *words, size_t length, bool log, uint32_t page, uint32_t *word, uint32_t *missing);
 
 /* Puts a word to a page and says true; *missing stays. Where the page is not below the size, the words stay, *missing becomes
