@@ -9,8 +9,8 @@
  *   - the handle that any other function is given leads to memory in which gorsepick_fresh made an engine, or to a whole copy
  *     of such memory, made between calls, and nothing but these functions has written to it since. What it holds is of no
  *     account to a host, and a host that scribbles over it has no promise left;
- *   - every pointer, `at`, `word` and `missing` among them, is not null and leads to what its type says, writable where it is not const;
- *     one with a length beside it leads to that many elements, and is not null even where the length is 0;
+ *   - every pointer, `at`, `word` and `missing` among them, is not null and leads to what its type says, writable where it
+ *     is not const; one with a length beside it leads to that many elements, and is not null even where the length is 0;
  *   - the memory behind two pointers of one call does not overlap, and during a call nothing else uses any of it: no other
  *     thread, signal handler, interrupt or device; and no call is left by longjmp;
  *   - pointers are aligned as C aligns their types, and a bool is true or false.
