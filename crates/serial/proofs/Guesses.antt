@@ -22,6 +22,7 @@ use Rattle.serial.proofs.Calls.{Good, fresh_good, after_good}
 use Rattle.serial.proofs.PageLists.{stands_found, has_found}
 use Rattle.serial.proofs.OneStep.{store_reads_in_words}
 
+-- the entry of a read
 abbrev read_at : ℕ → ℕ → Option ReadEntry
 read_at step p = Some (record { step = step; page = p })
 

@@ -189,7 +189,7 @@ module _ (ar : Meaning) (pages : List ℕ) (st : Step) (s : Stand) where
     );
   }
 
-  -- of two outcomes that move, each alike in all parts
+  -- two outcomes are one, whatever kind of step it is
   module _ (d d' : Taken) (x : ComesTo ar pages st s d) (y : ComesTo ar pages st s d') where
     one_by : (k : Kind ar st s) → d ≡ d'
     one_by (reads a p h) =

@@ -20,13 +20,14 @@ use Rattle.serial.proofs.Conflicts.{own_grows}
 use Rattle.serial.proofs.PageLists.{stands_found, has_found, stands_told, told_stands, once_write, written-write}
 use Rattle.serial.proofs.OneStep.{writes-effect, comes_to, Kind, kind, reads, writes, sets, leaves, reads-effect, sets-effect, leaves-effect}
 
--- what a step that is taken leaves as many of, and what it does to the own list
+-- the own list after an effect
 abbrev own_after : List WriteEntry → Effect → List WriteEntry
 own_after own (reading a p) = own
 own_after own (writing p w) = write own p w
 own_after own (setting a w) = own
 own_after own (leaving n) = own
 
+-- what an effect leaves: as many registers, and that list
 record Left (s : Stand) (eff : Effect) (t : Stand) : Type 0 where
   as_many : length t.registers ≡ length s.registers
   own : t.own ≡ own_after s.own eff
@@ -70,7 +71,7 @@ module _ (ar : Meaning) (script : Steps) (pages : List ℕ) where
       let l = left pages s t (effect ar wn.0 s) (taken_at s t wn.0 wn.1 h) in
       l.own ∙ ap (own_after s.own) e
 
-  -- a step writes or not
+  -- a step that is taken writes a word, or leaves the list as it is
   record Written (s t : Stand) : Type 0 where
     page : ℕ
     word : ℕ
@@ -131,7 +132,7 @@ module _ (ar : Meaning) (script : Steps) (pages : List ℕ) where
   wrote-leads (this p w h wn rest) = more h (wrote-leads rest)
   wrote-leads (none_here h none rest) = more h (wrote-leads rest)
 
--- the last word for a page among writes
+-- the last word for a page among writes, where there is one
 abbrev or_else : Option ℕ → Option ℕ → Option ℕ
 or_else None y = y
 or_else (Some x) y = Some x

@@ -8,6 +8,7 @@ ghost use Rattle.serial.specs.Guesses.{ShadowsGuess, TestsInWords, SpoiledByRead
 ghost use Rattle.serial.specs.Laws.{StepsRise, RunsDetermined, ReadsGrow, UnreadReached, StandFound};
 ghost use Rattle.serial.specs.Machine.{start};
 ghost use Rattle.serial.specs.OneStep.{StepsComeTo, StepsHaveOneOutcome, NextInWords, Begins, FourRegisters, StoreReadsInWords, WritesInWords};
+ghost use Rattle.serial.specs.WriteLaws.{WritesTold, StandsOnce, StaysWritten, LastWritten, InOrder, ReadsOwnWord, PutsInWords};
 ghost use Rattle.serial.specs.Sound.{EnginesStaySound};
 ghost use Rattle.serial.specs.Words.{FreshInWords, RelationsFixEngine, PicksFurthest, AccountsInWords, TurnsChangeOnly, DeclinedChangesNothing};
 ghost use Rattle.serial.specs.Refused.{FaultsTold};
