@@ -8,12 +8,11 @@ ghost use Rattle.serial.specs.Guesses.{ShadowsGuess, TestsInWords, SpoiledByRead
 ghost use Rattle.serial.specs.Laws.{StepsRise, RunsDetermined, ReadsGrow, UnreadReached, StandFound};
 ghost use Rattle.serial.specs.Machine.{start};
 ghost use Rattle.serial.specs.OneStep.{StepsComeTo, StepsHaveOneOutcome, NextInWords, Begins, FourRegisters, StoreReadsInWords, WritesInWords};
-ghost use Rattle.serial.specs.WriteLaws.{WritesTold, StandsOnce, StaysWritten, LastWritten, InOrder, ReadsOwnWord, PutsInWords};
+ghost use Rattle.serial.specs.Outcome.{OneOutcome, OneRun, DeclinedExactly, AcceptedExactly, StandInWords, ReadEntryInWords};
+ghost use Rattle.serial.specs.Refused.{FaultsTold};
+ghost use Rattle.serial.specs.Rules.{set_allowance, begin, turn, commit, abort};
 ghost use Rattle.serial.specs.Sound.{EnginesStaySound};
 ghost use Rattle.serial.specs.Words.{FreshInWords, RelationsFixEngine, PicksFurthest, AccountsInWords, TurnsChangeOnly, DeclinedChangesNothing};
-ghost use Rattle.serial.specs.Refused.{FaultsTold};
-ghost use Rattle.serial.specs.Outcome.{OneOutcome, OneRun, DeclinedExactly, AcceptedExactly, StandInWords, ReadEntryInWords};
-ghost use Rattle.serial.specs.Rules.{set_allowance, begin, turn, commit, abort};
 ghost use Rattle.serial.specs.WriteLaws.{WritesTold, StandsOnce, StaysWritten, LastWritten, InOrder, ReadsOwnWord, PutsInWords};
 
 mod fault;
