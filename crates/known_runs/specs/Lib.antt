@@ -1,6 +1,7 @@
 pub mod Runs
 pub mod Scripts
 pub mod Events
+pub mod Worked
 pub mod Plain
 pub mod Shadows
 pub mod Refusals

@@ -1,19 +1,9 @@
 -- Known runs of scripts alone, of decoding and of log words. Assumes nothing.
-use Rattle.std.specs.Prelude.{ℕ, List, [], ◌∷◌, replicate}
+use Rattle.std.specs.Prelude.{[], ◌∷◌, replicate, Some, None}
 use Rattle.arithmetic.specs.Words.{counters, flags}
-use Rattle.known_runs.specs.Runs.{runs, answers, faults, no_script, accepted, refused, Run, alone_runs, decodes, log_holds, log_takes}
-use Rattle.known_runs.specs.Scripts.{A, B, script, sets, reads, reads_around, puts, reads_own, skips_if_zero, skips, single}
+use Rattle.known_runs.specs.Runs.{runs, answers, faults, no_script, accepted, refused, gives, page_holds, page_takes, Run, alone_runs, decodes, log_run}
+use Rattle.known_runs.specs.Scripts.{A, B, script, reads, reads_from, puts, puts_from, reads_own, skips_if_zero, skips, single}
 use Rattle.known_runs.specs.Events.{three}
-
-abbrev pub a_alone : Run
-a_alone = alone_runs counters three (runs A (answers 15 1 (15 ∷ 20 ∷ 30 ∷ [])) ∷ [])
-
-abbrev pub b_alone : Run
-b_alone = alone_runs counters three (runs B (answers 30 1 (10 ∷ 20 ∷ 30 ∷ [])) ∷ [])
-
-abbrev pub a_then_b : Run
-a_then_b =
-    alone_runs counters three (runs A (answers 15 1 (15 ∷ 20 ∷ 30 ∷ [])) ∷ runs B (answers 35 1 (15 ∷ 20 ∷ 35 ∷ [])) ∷ [])
 
 abbrev pub a_then_b_flags : Run
 a_then_b_flags =
@@ -27,9 +17,21 @@ edge_pages =
     ∷ runs (puts 7 2) (answers 7 1 (10 ∷ 20 ∷ 7 ∷ [])) ∷ []
     )
 
--- an indexed page number goes round
-abbrev pub around : Run
-around = alone_runs counters three (runs reads_around (answers 10 0 three) ∷ [])
+-- an indexed page number goes round at 2^32, in a read and in a write
+abbrev pub indexed_around : Run
+indexed_around =
+    alone_runs counters three (
+    runs (reads_from 4294967295 1) (answers 10 0 three) ∷ runs (reads_from 4294967293 5) (answers 30 0 three)
+    ∷ runs (puts_from 7 4294967293 5) (answers 7 1 (10 ∷ 20 ∷ 7 ∷ [])) ∷ []
+    )
+
+-- and not before: 2^31 + 1 is no page 1, and 2^32 - 1 is no page 0
+abbrev pub indexed_far : Run
+indexed_far =
+    alone_runs counters three (
+    runs (reads_from 2147483648 1) (faults 1 2147483649) ∷ runs (puts_from 7 2147483648 1) (faults 2 2147483649)
+    ∷ runs (reads_from 4294967290 5) (faults 1 4294967295) ∷ runs (puts_from 7 4294967290 5) (faults 2 4294967295) ∷ []
+    )
 
 -- a page on the own list is read from there, and stands there once
 abbrev pub own_page : Run
@@ -45,65 +47,39 @@ no_scripts =
     runs [] (no_script 5 (0 ∷ [])) ∷ runs (single 0x60 1) (no_script 6 (0 ∷ [])) ∷ runs B (answers 30 1 three) ∷ []
     )
 
-abbrev pub sixteen_sets : Run
-sixteen_sets = decodes (sets 16) (accepted 16)
-
-abbrev pub seventeen_sets : Run
-seventeen_sets = decodes (sets 17) (refused 5 (86 ∷ []))
-
-abbrev pub no_bytes : Run
-no_bytes = decodes [] (refused 5 (0 ∷ []))
-
 abbrev pub no_steps : Run
-no_steps = decodes (0 ∷ []) (refused 5 (1 ∷ []))
+no_steps = decodes (gives (0 ∷ []) (refused 5 (1 ∷ [])) ∷ [])
 
 abbrev pub one_byte_short : Run
-one_byte_short = decodes (1 ∷ 0x40 ∷ 0 ∷ 0 ∷ 0 ∷ []) (refused 5 (5 ∷ []))
+one_byte_short = decodes (gives (1 ∷ 0x40 ∷ 0 ∷ 0 ∷ 0 ∷ []) (refused 5 (5 ∷ [])) ∷ [])
 
 abbrev pub one_byte_long : Run
-one_byte_long = decodes (1 ∷ 0x40 ∷ 0 ∷ 0 ∷ 0 ∷ 0 ∷ 0 ∷ []) (refused 5 (7 ∷ []))
-
-abbrev pub skip_in_room : Run
-skip_in_room = decodes (skips 1) (accepted 2)
-
-abbrev pub skip_too_far : Run
-skip_too_far = decodes (single 0x60 1) (refused 6 (0 ∷ []))
+one_byte_long = decodes (gives (1 ∷ 0x40 ∷ 0 ∷ 0 ∷ 0 ∷ 0 ∷ 0 ∷ []) (refused 5 (7 ∷ [])) ∷ [])
 
 abbrev pub skip_past_end : Run
-skip_past_end = decodes (skips 2) (refused 6 (0 ∷ []))
+skip_past_end = decodes (gives (skips 2) (refused 6 (0 ∷ [])) ∷ [])
 
 abbrev pub skip_nothing : Run
-skip_nothing = decodes (skips 0) (refused 6 (0 ∷ []))
+skip_nothing = decodes (gives (skips 0) (refused 6 (0 ∷ [])) ∷ [])
 
 abbrev pub skip_fifteen : Run
-skip_fifteen = decodes (script (0x60 ∷ replicate 15 0x40) (15 ∷ replicate 15 0)) (accepted 16)
+skip_fifteen = decodes (gives (script (0x60 ∷ replicate 15 0x40) (15 ∷ replicate 15 0)) (accepted 81 16) ∷ [])
 
 -- actions go to 6, a combine has operand 0, 1 or 2, and a read has no register b; the first such step is told
 abbrev pub no_action : Run
-no_action = decodes (script (0x40 ∷ 0x70 ∷ 0x80 ∷ []) (0 ∷ 0 ∷ 0 ∷ [])) (refused 6 (1 ∷ []))
+no_action = decodes (gives (script (0x40 ∷ 0x70 ∷ 0x80 ∷ []) (0 ∷ 0 ∷ 0 ∷ [])) (refused 6 (1 ∷ [])) ∷ [])
 
 abbrev pub no_operation : Run
-no_operation = decodes (single 0x51 3) (refused 6 (0 ∷ []))
+no_operation = decodes (gives (single 0x51 3) (refused 6 (0 ∷ [])) ∷ [])
 
 abbrev pub read_with_b : Run
-read_with_b = decodes (single 0x01 0) (refused 6 (0 ∷ []))
+read_with_b = decodes (gives (single 0x01 0) (refused 6 (0 ∷ [])) ∷ [])
 
--- one page, room for one entry, which is used: page 0 holds the entry's word, and a put empties the log first
-abbrev pub full_log : List ℕ
-full_log = 1 ∷ 1 ∷ 1 ∷ 5 ∷ 0 ∷ 9 ∷ []
-
-abbrev pub full_log_read : Run
-full_log_read = log_holds full_log 0 9
-
-abbrev pub full_log_put : Run
-full_log_put = log_takes full_log 0 7 (1 ∷ 1 ∷ 1 ∷ 9 ∷ 0 ∷ 7 ∷ [])
-
--- three pages and room for two entries, of which one is used: the other is wild
-abbrev pub roomy_log : List ℕ
-roomy_log = 3 ∷ 2 ∷ 1 ∷ 10 ∷ 20 ∷ 30 ∷ 2 ∷ 9 ∷ 35 ∷ 8 ∷ []
-
-abbrev pub roomy_log_read : Run
-roomy_log_read = log_holds roomy_log 2 35
-
-abbrev pub roomy_log_put : Run
-roomy_log_put = log_takes roomy_log 0 5 (3 ∷ 2 ∷ 2 ∷ 10 ∷ 20 ∷ 30 ∷ 2 ∷ 0 ∷ 35 ∷ 5 ∷ [])
+-- three pages and room for two entries, of which one is used: the other is wild, until a put writes it
+abbrev pub roomy_log : Run
+roomy_log =
+    log_run (3 ∷ 2 ∷ 1 ∷ 10 ∷ 20 ∷ 30 ∷ 2 ∷ 9 ∷ 35 ∷ 8 ∷ []) (
+    page_holds 2 (Some 35) ∷ page_holds 3 None ∷ page_takes 0 5 (3 ∷ 2 ∷ 2 ∷ 10 ∷ 20 ∷ 30 ∷ 2 ∷ 0 ∷ 35 ∷ 5 ∷ [])
+    ∷ page_holds 0 (Some 5) ∷ page_holds 1 (Some 20) ∷ page_takes 2 6 (3 ∷ 2 ∷ 1 ∷ 5 ∷ 20 ∷ 35 ∷ 2 ∷ 0 ∷ 6 ∷ 5 ∷ [])
+    ∷ page_holds 2 (Some 6) ∷ page_holds 0 (Some 5) ∷ []
+    )

@@ -4,7 +4,7 @@ use Rattle.arithmetic.specs.Words.{counters}
 use Rattle.serial.specs.declared.fault.Standing.TheVariants.{AtEnd, Halted, Ready}
 use Rattle.serial.specs.Rules.{set_allowance, begin, turn, commit, abort}
 use Rattle.known_runs.specs.Runs.{pages_are, store_is, Run, engine_run}
-use Rattle.known_runs.specs.Scripts.{A, B, sets, reads, puts, puts_three, single}
+use Rattle.known_runs.specs.Scripts.{A, B, sets, reads, reads_from, puts, puts_from, puts_three, single}
 use Rattle.known_runs.specs.Events.{three, allows, begins, moves, has_ended, waits, commits, aborts, declines, stands, lacks}
 
 -- 1: of two such numbers the first; before a closed slot and before bytes that are no script
@@ -52,6 +52,14 @@ pages_off =
     ++ declines (turn 1 1) 9 (1 ∷ 1 ∷ 3 ∷ []) ∷ stands 1 1 1 Ready ∷ declines (commit 1) 10 (1 ∷ [])
     ∷ store_is (10 ∷ 20 ∷ 30 ∷ 40 ∷ []) ∷ moves 1 0 0 ++ stands 0 0 1 AtEnd ∷ moves 1 1 1 ++ stands 0 1 0 Halted
     ∷ commits 1 7 1 ∷ stands 0 0 0 Ready ∷ moves 1 0 0 ++ commits 0 7 0 ∷ pages_are (10 ∷ 20 ∷ 30 ∷ 7 ∷ []) ∷ []
+    )
+
+-- an indexed page is told by the number that it comes to
+abbrev pub far_pages : Run
+far_pages =
+    engine_run counters three (
+    begins 0 (reads_from 2147483648 1) ∷ begins 1 (puts_from 7 2147483648 1) ∷ moves 1 0 0
+    ++ declines (turn 0 0) 9 (0 ∷ 1 ∷ 2147483649 ∷ []) ∷ moves 2 1 1 ++ declines (turn 1 1) 9 (1 ∷ 2 ∷ 2147483649 ∷ []) ∷ []
     )
 
 -- 10 comes before 11, and 11 tells the first such page in the order of the list

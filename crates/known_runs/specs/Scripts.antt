@@ -34,9 +34,13 @@ reads_two = script (0x00 ∷ 0x04 ∷ []) (0 ∷ 1 ∷ [])
 abbrev pub reads_three : List ℕ
 reads_three = script (0x00 ∷ 0x04 ∷ 0x08 ∷ []) (1 ∷ 0 ∷ 2 ∷ [])
 
--- register 1 takes 1, register 0 takes the page numbered by 4,294,967,295 and register 1
-abbrev pub reads_around : List ℕ
-reads_around = script (0x44 ∷ 0x11 ∷ []) (1 ∷ 4294967295 ∷ [])
+-- register 1 takes b, register 0 takes the page numbered by the operand and register 1
+abbrev pub reads_from : ℕ → ℕ → List ℕ
+reads_from operand b = script (0x44 ∷ 0x11 ∷ []) (b ∷ operand ∷ [])
+
+-- registers 0 and 1 take w and b, the page numbered by the operand and register 1 takes register 0
+abbrev pub puts_from : ℕ → ℕ → ℕ → List ℕ
+puts_from w operand b = script (0x40 ∷ 0x44 ∷ 0x31 ∷ []) (w ∷ b ∷ operand ∷ [])
 
 -- register 0 takes page 0, register 1 takes the page that register 0 numbers
 abbrev pub follows : List ℕ
@@ -61,6 +65,10 @@ reads_puts q p = script (0x04 ∷ 0x40 ∷ 0x20 ∷ []) (q ∷ 7 ∷ p ∷ [])
 -- page 0 takes 6, register 1 takes page 0, and page 0 takes the combination of both
 abbrev pub reads_own : List ℕ
 reads_own = script (0x40 ∷ 0x20 ∷ 0x04 ∷ 0x51 ∷ 0x20 ∷ []) (6 ∷ 0 ∷ 0 ∷ 0 ∷ 0 ∷ [])
+
+-- register 0 takes 6, pages 1 and 0 take it, and register 1 takes page 0
+abbrev pub puts_then_reads : List ℕ
+puts_then_reads = script (0x40 ∷ 0x20 ∷ 0x20 ∷ 0x04 ∷ []) (6 ∷ 1 ∷ 0 ∷ 0 ∷ [])
 
 -- register 0 takes w; if it is equal to register 1, the next step is left out; register 0 takes 9
 abbrev pub skips_if_zero : ℕ → List ℕ

@@ -2,42 +2,44 @@
 use Rattle.std.specs.Prelude.{ℕ, List, [], ◌∷◌, ◌++◌}
 use Rattle.arithmetic.specs.Words.{counters}
 use Rattle.serial.specs.declared.fault.Standing.TheVariants.{AtEnd, Halted, Ready}
+use Rattle.serial.specs.Machine.{Stand}
 use Rattle.serial.specs.Rules.{turn}
 use Rattle.known_runs.specs.Runs.{Event, pages_are, store_is, Run, engine_run}
-use Rattle.known_runs.specs.Scripts.{A, B, reads, reads_two, reads_three, follows, puts, puts_two, reads_puts}
-use Rattle.known_runs.specs.Events.{three, allows, begins, moves, waits, commits, aborts, declines, stands, lacks}
+use Rattle.known_runs.specs.Scripts.{A, B, reads, reads_two, reads_three, reads_from, follows, puts, puts_two, puts_from, puts_then_reads, reads_puts}
+use Rattle.known_runs.specs.Events.{three, allows, begins, moves, waits, commits, aborts, declines, stands, lacks, stood, shown, spoils_at, spares}
+use Rattle.known_runs.specs.Worked.{a_before_b}
 
--- A takes four turns, B's leading shadow three
-abbrev pub a_before_b : List Event
-a_before_b = begins 0 A ∷ begins 1 B ∷ moves 4 0 0 ++ moves 3 1 1
+-- where B run alone over these pages stands before its read of page 0
+abbrev pub b_before_read : Stand
+b_before_read = stood 1 (20 ∷ 0 ∷ 0 ∷ 0 ∷ []) ((0, 1) ∷ []) []
 
-abbrev pub take_over : Run
-take_over =
+-- where slot 2 stands that has read page 1, and slot 3 that reads page 0 from its own list
+abbrev pub two_stands : Stand
+two_stands = stood 1 (20 ∷ 0 ∷ 0 ∷ 0 ∷ []) ((0, 1) ∷ []) []
+
+abbrev pub three_stands : Stand
+three_stands = stood 4 (6 ∷ 6 ∷ 0 ∷ 0 ∷ []) [] ((1, 6) ∷ (0, 6) ∷ [])
+
+-- Under allowance 8 slot 0's commit of page 0 spoils slot 1, which has read that page. Its waiting shadow for 0 stands where
+-- its run alone does before that read, further than its shadow for 3, and takes over there. The commit spoils neither slot 2,
+-- which is yet to read the page, nor slot 3, whose read was no store read: both go on where they are
+abbrev pub rescue : Run
+rescue =
     engine_run counters three (
-    a_before_b ++ stands 1 0 1 Halted ∷ commits 0 15 1 ∷ stands 1 1 1 Ready ∷ lacks 1 0 ∷ moves 3 1 1 ++ stands 1 1 4 AtEnd
-    ∷ commits 1 35 1 ∷ pages_are (15 ∷ 20 ∷ 35 ∷ []) ∷ []
-    )
-
-abbrev pub reader_first : Run
-reader_first =
-    engine_run counters three (
-    a_before_b ++ moves 1 1 1 ++ commits 1 30 1 ∷ commits 0 15 1 ∷ pages_are (15 ∷ 20 ∷ 30 ∷ []) ∷ []
-    )
-
--- B has read page 0 before A writes it: its shadow for 0 starts at step 0
-abbrev pub late_write : Run
-late_write =
-    engine_run counters three (
-    begins 0 A ∷ begins 1 B ∷ moves 2 1 1 ++ moves 4 0 0 ++ stands 1 0 0 Ready ∷ moves 1 1 0 ++ stands 1 0 1 Halted
-    ∷ waits 1 0 ∷ stands 1 0 1 Halted ∷ []
-    )
-
--- with no shadow for 0, B starts over
-abbrev pub start_over : Run
-start_over =
-    engine_run counters three (
-    allows 1 ∷ a_before_b ++ lacks 1 0 ∷ commits 0 15 1 ∷ stands 1 1 0 Ready ∷ moves 4 1 1 ++ commits 1 35 1
+    allows 8 ∷ begins 0 A ∷ begins 1 B ∷ begins 2 reads_three ∷ begins 3 puts_then_reads ∷ moves 4 3 3 ++ moves 4 0 0
+    ++ moves 3 1 1 ++ moves 1 2 2 ++ spoils_at 0 1 b_before_read ∷ waits 1 0 ∷ shown 1 0 b_before_read ∷ stands 1 3 0 Halted
+    ∷ stands 1 1 3 Ready ∷ spares 0 2 ∷ shown 2 2 two_stands ∷ spares 0 3 ∷ shown 3 3 three_stands ∷ commits 0 15 1
+    ∷ shown 1 1 b_before_read ∷ lacks 1 0 ∷ shown 2 2 two_stands ∷ shown 3 3 three_stands ∷ moves 3 1 1 ++ commits 1 35 1
     ∷ pages_are (15 ∷ 20 ∷ 35 ∷ []) ∷ []
+    )
+
+-- page numbers that go round meet as pages
+abbrev pub meets_around : Run
+meets_around =
+    engine_run counters three (
+    begins 0 (puts_from 7 4294967293 5) ∷ begins 1 (reads_from 4294967294 4) ∷ moves 3 0 0 ++ moves 1 1 1 ++ lacks 1 0
+    ∷ moves 1 1 1 ++ stands 1 0 1 Halted ∷ spoils_at 0 1 (stood 1 (0 ∷ 4 ∷ 0 ∷ 0 ∷ []) [] []) ∷ commits 0 7 1
+    ∷ stands 1 1 1 Ready ∷ moves 1 1 1 ++ commits 1 7 0 ∷ pages_are (10 ∷ 20 ∷ 7 ∷ []) ∷ []
     )
 
 -- slots 0 and 1 have both written page 0: slot 2, before it reads it, has room to account for 0 and none for 1
