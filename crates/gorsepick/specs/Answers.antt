@@ -1,5 +1,5 @@
 -- What the answers of a store and of a decoder are to the program. Assumes nothing.
-use Rattle.std.specs.Prelude.{◌≡◌, ℕ, List, length, take, Some, None, Ok, Err, vec_items, Option, Result}
+use Rattle.std.specs.Prelude.{◌≡◌, ℕ, List, [], length, take, Some, None, Ok, Err, vec_items, Option, Result}
 use Rattle.std.specs.Global.{Vec}
 use Rattle.pages.specs.Pages.{word_at, Put}
 use Rattle.pages.specs.Image.{image_pages, image_cause, image_returned}
@@ -12,8 +12,11 @@ use Rattle.serial.specs.Machine.{Meaning}
 use Rattle.engine.specs.Alone.{RanAlone}
 use Rattle.engine.specs.declared.alone.AloneFault.{AloneFault}
 use Rattle.engine.specs.declared.alone.AloneFault.TheVariants.{Script, Step}
+use Rattle.gorsepick.specs.Kinds.{kind_pages, kind_wrote}
+use Rattle.gorsepick.specs.declared.memory.Kind.{Kind}
+use Rattle.gorsepick.specs.declared.memory.Kind.TheVariants.{Flat}
 use Rattle.gorsepick.specs.declared.answer.Answer.{Answer}
-use Rattle.gorsepick.specs.declared.answer.Answer.TheVariants.{Size, Word, Fault, Written, Pages, Loaded, Finished, Stopped, Refused}
+use Rattle.gorsepick.specs.declared.answer.Answer.TheVariants.{Size, Word, Fault, Written, Pages, Words, Loaded, Finished, Stopped, Refused}
 use Rattle.gorsepick.specs.declared.command.Request.{Request}
 use Rattle.gorsepick.specs.declared.command.Request.TheVariants as asked
 
@@ -28,6 +31,11 @@ put_answer (Err f) = Fault f.page
 -- these pages
 abbrev pub Shows : List ℕ → Answer → Type 0
 Shows pages a = (v : Vec ℕ) × (a ≡ Pages v) × (vec_items v ≡ pages)
+
+-- the words of what there is of the store
+abbrev pub ShowsWords : Option (Kind × List ℕ) → Answer → Type 0
+ShowsWords None a = (v : Vec ℕ) × (a ≡ Words v) × (vec_items v ≡ [])
+ShowsWords (Some m) a = (v : Vec ℕ) × (a ≡ Words v) × (vec_items v ≡ m.1)
 
 -- this number, and the first three of these values: no refusal tells more
 abbrev pub Refuses : ℕ → List ℕ → Answer → Type 0
@@ -60,3 +68,13 @@ module _ {S : Type 0} (pages : S → List ℕ) (wrote : S → ℕ → ℕ → S 
       (o : Result (Unit {0}) ImageLoadFault) × ImageLoaded pages wrote (vec_items bytes) s o t × LoadAnswer o a
   Answered (asked.Alone bytes) s a t =
       (o : Result (ℕ × ℕ) AloneFault) × RanAlone pages wrote ar s (decoded (vec_items bytes)) o t × AloneAnswer o a
+
+-- the same over words that are read as a store of this kind
+abbrev pub AnsweredIn : Kind → Meaning → Request → List ℕ → Answer → List ℕ → Type 0
+AnsweredIn kind = Answered (kind_pages kind) (kind_wrote kind)
+
+-- and over what there is of the store, whose kind stays. Before one is given a flat store with no words stands in for it, of
+-- which nothing is kept
+abbrev pub AnsweredBy : Meaning → Request → Option (Kind × List ℕ) → Answer → Option (Kind × List ℕ) → Type 0
+AnsweredBy ar request None a after = (vs : List ℕ) × AnsweredIn Flat ar request [] a vs × (after ≡ None)
+AnsweredBy ar request (Some m) a after = (vs : List ℕ) × AnsweredIn m.0 ar request m.1 a vs × (after ≡ Some (m.0, vs))

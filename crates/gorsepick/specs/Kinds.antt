@@ -1,7 +1,7 @@
 -- How the words of the memory are read. Assumes nothing.
-use Rattle.std.specs.Prelude.{ℕ, List, [], vec_items, Some, None, Option}
+use Rattle.std.specs.Prelude.{◌≡◌, ℕ, List, [], vec_items, Some, None, Option, slice_set}
 use Rattle.pages.specs.Flat.{flat_pages}
-use Rattle.pages.specs.Log.{log_pages}
+use Rattle.pages.specs.Log.{log_pages, log_put}
 use Rattle.gorsepick.specs.declared.memory.Kind.{Kind}
 use Rattle.gorsepick.specs.declared.memory.Kind.TheVariants.{Flat, Log}
 use Rattle.gorsepick.specs.declared.memory.Memory.{Memory}
@@ -11,7 +11,15 @@ abbrev pub kind_pages : Kind → List ℕ → List ℕ
 kind_pages Flat = flat_pages
 kind_pages Log = log_pages
 
--- and of a memory, which has both
+-- the words after a put of w to page p of such a store
+abbrev pub kind_put : Kind → List ℕ → ℕ → ℕ → List ℕ
+kind_put Flat ws p w = slice_set ws p w
+kind_put Log ws p w = log_put ws p w
+
+abbrev pub kind_wrote : Kind → List ℕ → ℕ → ℕ → List ℕ → Type 0
+kind_wrote kind ws p w vs = vs ≡ kind_put kind ws p w
+
+-- the pages of a memory, which has both
 abbrev pub memory_pages : Memory → List ℕ
 memory_pages m = kind_pages m.kind (vec_items m.words)
 
@@ -19,3 +27,8 @@ memory_pages m = kind_pages m.kind (vec_items m.words)
 abbrev pub store_pages : Option Memory → List ℕ
 store_pages None = []
 store_pages (Some m) = memory_pages m
+
+-- what there is of the store: how the words are read, and the words; nothing before a store is given
+abbrev pub held : Option Memory → Option (Kind × List ℕ)
+held None = None
+held (Some m) = Some (m.kind, vec_items m.words)

@@ -1,4 +1,3 @@
 pub mod Digits
 pub mod Answers
 pub mod Kinds
-pub mod Chosen

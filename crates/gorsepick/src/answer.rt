@@ -1,5 +1,5 @@
 // What a command answers.
-ghost use Rattle.std.specs.Prelude.{◌≡◌, ◌++◌, take, IfOk, OnOk};
+ghost use Rattle.std.specs.Prelude.{◌≡◌, ◌++◌, take, IfOk, OnOk, OnErr, IsErr, MatchResult};
 ghost use Rattle.std.specs.Option.{option_to_list};
 ghost use Rattle.gorsepick.specs.Answers.{Refuses};
 
@@ -58,6 +58,22 @@ pub(crate) fn refused<F: Refusal>(heap: Global, fault: &F) -> Result<Answer, All
     let number = fault.number();
     let values = refusal_values(heap, fault)?;
     Ok(Answer::Refused { number, values })
+}
+
+// What was told, as an answer, or the refusal.
+pub(crate) fn shown<T, E: Refusal + Drop, F: FnOnce(T) -> Answer>(
+    heap: Global,
+    told: Result<T, E>,
+    show: F,
+) -> Result<Answer, AllocError>
+    requires { F.IsAlwaysCallable show }
+    ensures answered { IfOk result (λ a. MatchResult told (λ x. F.post show x a) (λ e. Refuses (E.Refusal.cause e) (E.Refusal.returned e) a)) }
+    ensures failed { OnErr result (IsErr told) }
+{
+    match told {
+        Ok(told) => Ok(show(told)),
+        Err(fault) => refused(heap, &fault),
+    }
 }
 
 // The values that a refusal tells, in order.

@@ -11,6 +11,7 @@ mod replay;
 mod session;
 mod shadows;
 mod spoils;
+mod store;
 mod summary;
 mod text;
 

@@ -1,13 +1,28 @@
 // The calls of a session once more, on a fresh engine.
 use crate::command::Made;
+use crate::memory::Kind;
 use arithmetic::Delivered;
 use engine::{Call, carry_out};
-use pages::Store;
+use pages::{Flat, Log, Store};
 use serial::{Accepted, Answer};
 use std::alloc::{AllocError, Global};
 
-// Carries the calls out again over a store; whether they answer as they did.
-pub(crate) fn replays<S: Store>(
+// Carries the calls out again over words that are read as a store of this kind; whether they answer as they did.
+pub(crate) fn replays_in(
+    heap: Global,
+    calls: &[(Made, Answer)],
+    kind: Kind,
+    words: &mut [u32],
+    arithmetic: Delivered,
+) -> Result<bool, AllocError> {
+    match kind {
+        Kind::Flat => replays(heap, calls, &mut Flat::new(words), arithmetic),
+        Kind::Log => replays(heap, calls, &mut Log::new(words), arithmetic),
+    }
+}
+
+// The same over a store.
+fn replays<S: Store>(
     heap: Global,
     calls: &[(Made, Answer)],
     store: &mut S,

@@ -1,28 +1,19 @@
 // The host's side: the memory of the store, what the scenario keeps, and the commands carried out over them.
-ghost use Rattle.std.specs.Prelude.{◌≡◌, ℕ, ◌<◌, length, IfOk, MatchResult, Result, slice_index};
+ghost use Rattle.std.specs.Prelude.{◌≡◌, IfOk, OnErr};
 ghost use Rattle.arithmetic.specs.Words.{delivered};
-ghost use Rattle.pages.specs.Image.{image_fault};
-ghost use Rattle.pages.specs.Load.{ImageLoaded};
-ghost use Rattle.pages.specs.Pages.{word_at, Put};
-ghost use Rattle.pages.specs.declared.StoreFault.{StoreFault};
-ghost use Rattle.pages.specs.declared.fault.ImageLoadFault.{ImageLoadFault};
-ghost use Rattle.script.specs.Script.{decoded};
-ghost use Rattle.engine.specs.Alone.{RanAlone};
-ghost use Rattle.engine.specs.declared.alone.AloneFault.{AloneFault};
-ghost use Rattle.gorsepick.specs.Answers.{read_answer, put_answer, Shows, ShowsImage, LoadAnswer, AloneAnswer, Answered, Refuses};
-ghost use Rattle.gorsepick.specs.Kinds.{store_pages};
+ghost use Rattle.gorsepick.specs.Answers.{AnsweredBy, ShowsWords};
+ghost use Rattle.gorsepick.specs.Kinds.{store_pages, held};
 
-use crate::answer::{Answer, refused};
+use crate::answer::{Answer, shown};
 use crate::book::Book;
 use crate::command::{Command, Made, Question, Request};
-use crate::memory::{Memory, open};
-use crate::replay::replays;
+use crate::memory::{Kind, Memory};
+use crate::replay::replays_in;
 use crate::shadows::SLOTS;
 use crate::spoils::{Spoils, would_spoil};
+use crate::store::{answer_in, call_in, pages_in, show_image};
 use arithmetic::Delivered;
-use basics::Refusal;
-use engine::{AloneFault, Engine, run_alone};
-use pages::{Image, Reader, Store, load_image};
+use engine::Engine;
 use serial::Accepted;
 use std::alloc::{AllocError, Global};
 
@@ -80,17 +71,23 @@ impl Session {
     }
 
     // The host changes store, arithmetic or pages; before the first store there is nothing to change.
-    fn note_change(&mut self) {
+    fn note_change(&mut self)
+        ensures store { held self.new.memory ≡ held self.old.memory }
+        ensures engine { self.new.engine ≡ self.old.engine }
+    {
         if self.memory.is_some() {
             self.book.spoil();
         }
     }
 
-    fn words(&self, heap: Global) -> Result<Answer, AllocError> {
-        Ok(Answer::Words(match &self.memory {
-            None => Vec::new(heap),
-            Some(memory) => memory.words.clone()?,
-        }))
+    // The words of the memory behind the store.
+    fn words(&self, heap: Global) -> Result<Answer, AllocError>
+        ensures { IfOk result (ShowsWords (held self.now.memory)) }
+    {
+        match &self.memory {
+            None => Ok(Answer::Words(Vec::new(heap))),
+            Some(memory) => Ok(Answer::Words(memory.words.clone()?)),
+        }
     }
 
     fn ask_as_host(&mut self, heap: Global, request: Request) -> Result<Answer, AllocError> {
@@ -102,7 +99,10 @@ impl Session {
     }
 
     // What is asked of the engine, between calls, or of the serial book.
-    fn look(&mut self, heap: Global, question: Question) -> Result<Answer, AllocError> {
+    fn look(&mut self, heap: Global, question: Question) -> Result<Answer, AllocError>
+        ensures store { held self.new.memory ≡ held self.old.memory }
+        ensures engine { self.new.engine ≡ self.old.engine }
+    {
         self.uses_engine = true;
         match question {
             Question::Stand { slot, other } => {
@@ -121,7 +121,10 @@ impl Session {
         }
     }
 
-    fn book_pages(&mut self, heap: Global) -> Result<Answer, AllocError> {
+    fn book_pages(&mut self, heap: Global) -> Result<Answer, AllocError>
+        ensures store { held self.new.memory ≡ held self.old.memory }
+        ensures engine { self.new.engine ≡ self.old.engine }
+    {
         self.begin_book(heap)?;
         Ok(Answer::Pages(match self.book.begun() {
             None => Vec::new(heap),
@@ -130,10 +133,13 @@ impl Session {
     }
 
     // Begins the book, where it waits for that and a store is given.
-    pub(crate) fn begin_book(&mut self, heap: Global) -> Result<(), AllocError> {
+    pub(crate) fn begin_book(&mut self, heap: Global) -> Result<(), AllocError>
+        ensures store { held self.new.memory ≡ held self.old.memory }
+        ensures engine { self.new.engine ≡ self.old.engine }
+    {
         match &mut self.memory {
             Some(memory) if self.book.begun().is_none() => {
-                let pages = all_pages(heap, &memory.open())?;
+                let pages = pages_in(heap, memory.kind, memory.words.as_mut_slice())?;
                 let first = memory.clone()?;
                 let any_open = is_any_open(&self.engine);
                 self.book.begin(pages, first, any_open, self.allowance)
@@ -160,12 +166,17 @@ impl Session {
         shown(heap, answer, |accepted| Answer::Accepted(accepted))
     }
 
+    // Makes a call with the store. Until a scenario gives one, a flat store with no words stands in for it.
     fn call(&mut self, made: &Made) -> serial::Answer {
-        self.engine.call(
-            &made.as_call(),
-            &mut open(&mut self.memory),
-            &self.arithmetic,
-        )
+        let call = made.as_call();
+        let (engine, arithmetic) = (&mut self.engine, &self.arithmetic);
+        match &mut self.memory {
+            None => call_in(Kind::Flat, &mut [], engine, &call, arithmetic),
+            Some(memory) => {
+                let words = memory.words.as_mut_slice();
+                call_in(memory.kind, words, engine, &call, arithmetic)
+            }
+        }
     }
 
     // Enters a call in the book, where it is accepted.
@@ -216,7 +227,8 @@ impl Session {
     pub(crate) fn replays(&self, heap: Global, first: &Memory) -> Result<bool, AllocError> {
         let mut memory = first.clone()?;
         let calls = self.book.calls.as_slice();
-        let same = replays(heap, calls, &mut memory.open(), self.arithmetic)?;
+        let words = memory.words.as_mut_slice();
+        let same = replays_in(heap, calls, memory.kind, words, self.arithmetic)?;
         Ok(same && self.memory == Some(memory))
     }
 
@@ -228,29 +240,30 @@ impl Session {
 
     // All pages of the store.
     pub(crate) fn pages(&mut self, heap: Global) -> Result<Vec<u32>, AllocError>
-        ensures { IfOk result (λ v. v.items ≡ store_pages self.old.memory) }
+        ensures pages { IfOk result (λ v. v.items ≡ store_pages self.old.memory) }
+        ensures store { held self.new.memory ≡ held self.old.memory }
+        ensures engine { self.new.engine ≡ self.old.engine }
     {
-        all_pages(heap, &open(&mut self.memory))
+        match &mut self.memory {
+            None => Ok(Vec::new(heap)),
+            Some(memory) => pages_in(heap, memory.kind, memory.words.as_mut_slice()),
+        }
     }
 
-    // Asks the store, whichever kind it is.
-    fn ask(&mut self, heap: Global, request: Request) -> Result<Answer, AllocError> {
-        answer(heap, &mut open(&mut self.memory), self.arithmetic, request)
-    }
-}
-
-// What was told, as an answer, or the refusal.
-fn shown<T, E: Refusal + Drop, F: FnOnce(T) -> Answer>(
-    heap: Global,
-    told: Result<T, E>,
-    show: F,
-) -> Result<Answer, AllocError>
-    requires { F.IsAlwaysCallable show }
-    ensures { IfOk result (λ a. MatchResult told (λ x. F.post show x a) (λ e. Refuses (E.Refusal.cause e) (E.Refusal.returned e) a)) }
-{
-    match told {
-        Ok(told) => Ok(show(told)),
-        Err(fault) => refused(heap, &fault),
+    // Asks the store, whichever kind it is. Until a scenario gives one, a flat store with no words stands in for it.
+    fn ask(&mut self, heap: Global, request: Request) -> Result<Answer, AllocError>
+        ensures answered { IfOk result (λ a. AnsweredBy (delivered self.old.arithmetic) request (held self.old.memory) a (held self.new.memory)) }
+        ensures failed { OnErr result (held self.new.memory ≡ held self.old.memory) }
+        ensures engine { self.new.engine ≡ self.old.engine }
+    {
+        let arithmetic = self.arithmetic;
+        match &mut self.memory {
+            None => answer_in(heap, Kind::Flat, &mut [], arithmetic, request),
+            Some(memory) => {
+                let words = memory.words.as_mut_slice();
+                answer_in(heap, memory.kind, words, arithmetic, request)
+            }
+        }
     }
 }
 
@@ -269,97 +282,4 @@ fn count_row(engine: &Engine, slot: u32) -> usize {
     (0..SLOTS)
         .filter(|other| engine.shadow(slot, *other).is_some())
         .count()
-}
-
-fn answer<S: Store>(
-    heap: Global,
-    store: &mut S,
-    arithmetic: Delivered,
-    request: Request,
-) -> Result<Answer, AllocError>
-    ensures { IfOk result (λ a. Answered S.Reader.pages S.Store.wrote (delivered arithmetic) request store.old a store.new) }
-{
-    match request {
-        Request::Size => Ok(Answer::Size(store.size())),
-        Request::Get { page } => Ok(get(store, page)),
-        Request::Put { page, word } => Ok(put(store, page, word)),
-        Request::Pages => show_pages(heap, store),
-        Request::Load(bytes) => load(heap, store, bytes.as_slice()),
-        Request::Alone(bytes) => alone(heap, store, arithmetic, bytes.as_slice()),
-    }
-}
-
-fn get<R: Reader>(reader: &R, page: u32) -> Answer
-    ensures { result ≡ read_answer (word_at (R.Reader.pages reader.now) page) }
-{
-    match reader.read(page) {
-        Ok(word) => Answer::Word(word),
-        Err(fault) => Answer::Fault { page: fault.page },
-    }
-}
-
-fn put<S: Store>(store: &mut S, page: u32, word: u32) -> Answer
-    ensures { (o : Result (Unit {0}) StoreFault) × Put S.Reader.pages S.Store.wrote store.old page word o store.new × (result ≡ put_answer o) }
-{
-    match store.put(page, word) {
-        Ok(()) => Answer::Written,
-        Err(fault) => Answer::Fault { page: fault.page },
-    }
-}
-
-fn load<S: Store>(heap: Global, store: &mut S, bytes: &[u8]) -> Result<Answer, AllocError>
-    ensures { IfOk result (λ a. (o : Result (Unit {0}) ImageLoadFault) × ImageLoaded S.Reader.pages S.Store.wrote bytes.now store.old o store.new × LoadAnswer o a) }
-{
-    shown(heap, load_image(bytes, store), |()| Answer::Loaded)
-}
-
-// Runs a script alone over the store.
-fn alone<S: Store>(
-    heap: Global,
-    store: &mut S,
-    arithmetic: Delivered,
-    bytes: &[u8],
-) -> Result<Answer, AllocError>
-    ensures { IfOk result (λ a. (o : Result (ℕ × ℕ) AloneFault) × RanAlone S.Reader.pages S.Store.wrote (delivered arithmetic) store.old (decoded bytes.now) o store.new × AloneAnswer o a) }
-{
-    match run_alone(bytes, store, &arithmetic) {
-        Ok((word, pages)) => Ok(Answer::Finished { word, pages }),
-        Err(AloneFault::Script(fault)) => refused(heap, &fault),
-        Err(AloneFault::Step { step, fault }) => Ok(Answer::Stopped {
-            step,
-            page: fault.page,
-        }),
-    }
-}
-
-fn show_image(heap: Global, bytes: &[u8]) -> Result<Answer, AllocError>
-    ensures { IfOk result (ShowsImage bytes.now (image_fault bytes.now)) }
-{
-    match Image::parse(bytes) {
-        Ok(image) => show_pages(heap, &image),
-        Err(fault) => refused(heap, &fault),
-    }
-}
-
-fn show_pages<R: Reader>(heap: Global, reader: &R) -> Result<Answer, AllocError>
-    ensures { IfOk result (Shows (R.Reader.pages reader.now)) }
-{
-    Ok(Answer::Pages(all_pages(heap, reader)?))
-}
-
-// All pages of a reader, in order.
-fn all_pages<R: Reader>(heap: Global, reader: &R) -> Result<Vec<u32>, AllocError>
-    ensures { IfOk result (λ v. v.items ≡ R.Reader.pages reader.now) }
-{
-    (0..reader.size())
-        .map(|page| page_word(reader, page))
-        .collect(heap)
-}
-
-// The word of a page that is there.
-fn page_word<R: Reader>(reader: &R, page: u32) -> u32
-    requires { page < length (R.Reader.pages reader.now) }
-    ensures { result ≡ slice_index (R.Reader.pages reader.now) page }
-{
-    reader.read(page).unwrap()
 }

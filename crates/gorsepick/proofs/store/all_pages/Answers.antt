@@ -1,7 +1,7 @@
 use Rattle.std.proofs.Common.{◌≡◌, ℕ, List, vec_items, slice_index, IfOk, refl, sym, subst, rules, tests, arith}
 use Rattle.std.proofs.lemmas.Iterator.{items_from_collect, YieldsList-from_map, YieldsList-from_range}
 use Rattle.std.proofs.lemmas.List.FromFn.{fill_by_all}
-use Rattle.gorsepick.proofs.session.all_pages.Goals as goal
+use Rattle.gorsepick.proofs.store.all_pages.Goals as goal
 
 pub returns : goal.returns
 returns g c =
