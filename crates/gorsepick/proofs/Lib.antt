@@ -1,2 +1,3 @@
 mod Halves
 mod OverWords
+mod Made

@@ -1,10 +1,11 @@
 -- What the answers of a store and of a decoder are to the program. Assumes nothing.
 use Rattle.std.specs.Prelude.{◌≡◌, ℕ, List, [], length, take, Some, None, Ok, Err, vec_items, Option, Result}
 use Rattle.std.specs.Global.{Vec}
-use Rattle.pages.specs.Pages.{word_at, Put}
+use Rattle.pages.specs.Pages.{word_at, Put, Chain}
 use Rattle.pages.specs.Image.{image_pages, image_cause, image_returned}
 use Rattle.pages.specs.Load.{ImageLoaded, image_load_cause, image_load_returned}
 use Rattle.pages.specs.declared.StoreFault.{StoreFault}
+use Rattle.pages.specs.declared.WriteEntry.{WriteEntry}
 use Rattle.pages.specs.declared.fault.ImageFault.{ImageFault}
 use Rattle.pages.specs.declared.fault.ImageLoadFault.{ImageLoadFault}
 use Rattle.script.specs.Script.{decoded, script_cause, script_returned}
@@ -78,3 +79,8 @@ AnsweredIn kind = Answered (kind_pages kind) (kind_wrote kind)
 abbrev pub AnsweredBy : Meaning → Request → Option (Kind × List ℕ) → Answer → Option (Kind × List ℕ) → Type 0
 AnsweredBy ar request None a after = (vs : List ℕ) × AnsweredIn Flat ar request [] a vs × (after ≡ None)
 AnsweredBy ar request (Some m) a after = (vs : List ℕ) × AnsweredIn m.0 ar request m.1 a vs × (after ≡ Some (m.0, vs))
+
+-- puts of these pages and words, in this order, to what there is of the store, whose kind stays
+abbrev pub PutsBy : Option (Kind × List ℕ) → List WriteEntry → Option (Kind × List ℕ) → Type 0
+PutsBy None es after = after ≡ None
+PutsBy (Some m) es after = (vs : List ℕ) × Chain (kind_wrote m.0) m.1 es vs × (after ≡ Some (m.0, vs))

@@ -23,12 +23,15 @@ kind_wrote kind ws p w vs = vs ≡ kind_put kind ws p w
 abbrev pub memory_pages : Memory → List ℕ
 memory_pages m = kind_pages m.kind (vec_items m.words)
 
--- the pages of the store over this memory; before one is given there are none
-abbrev pub store_pages : Option Memory → List ℕ
-store_pages None = []
-store_pages (Some m) = memory_pages m
-
 -- what there is of the store: how the words are read, and the words; nothing before a store is given
 abbrev pub held : Option Memory → Option (Kind × List ℕ)
 held None = None
 held (Some m) = Some (m.kind, vec_items m.words)
+
+-- the pages of the store; before one is given there are none
+abbrev pub held_pages : Option (Kind × List ℕ) → List ℕ
+held_pages None = []
+held_pages (Some m) = kind_pages m.0 m.1
+
+abbrev pub store_pages : Option Memory → List ℕ
+store_pages m = held_pages (held m)

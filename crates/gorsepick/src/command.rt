@@ -1,4 +1,8 @@
 // What a scenario asks for, line by line.
+ghost use Rattle.std.specs.Prelude.{◌≡◌};
+ghost use Rattle.engine.specs.Booking.{call_of};
+ghost use Rattle.gorsepick.specs.Made.{call_made};
+
 use crate::memory::Memory;
 use arithmetic::Delivered;
 use engine::Call;
@@ -46,7 +50,9 @@ pub(crate) enum Made {
 
 impl Made {
     // The call, for the engine.
-    pub(crate) fn as_call(&self) -> Call<'_> {
+    pub(crate) fn as_call(&self) -> Call<'_>
+        ensures { call_of result ≡ call_made self.now }
+    {
         match self {
             Made::Allow { allowance } => Call::SetAllowance {
                 allowance: *allowance,

@@ -1,8 +1,15 @@
 // The host's side: the memory of the store, what the scenario keeps, and the commands carried out over them.
-ghost use Rattle.std.specs.Prelude.{◌≡◌, IfOk, OnErr};
-ghost use Rattle.arithmetic.specs.Words.{delivered};
-ghost use Rattle.gorsepick.specs.Answers.{AnsweredBy, ShowsWords};
-ghost use Rattle.gorsepick.specs.Kinds.{store_pages, held};
+ghost use Rattle.std.specs.Prelude.{◌≡◌, ℕ, Some, None, length, IfOk, OnErr};
+ghost use Rattle.std.specs.Global.{Vec};
+ghost use Rattle.arithmetic.specs.Words.{counters, delivered};
+ghost use Rattle.serial.specs.Rules.{fresh_engine, does, list_put};
+ghost use Rattle.engine.specs.Calls.{state_of};
+ghost use Rattle.engine.specs.Table.{engine_of};
+ghost use Rattle.gorsepick.specs.Answers.{AnsweredBy, ShowsWords, PutsBy};
+ghost use Rattle.gorsepick.specs.Commands.{SameButBook, ShowsTold, Looked, CallMade, CarriedOut};
+ghost use Rattle.gorsepick.specs.Kinds.{store_pages, memory_pages, held};
+ghost use Rattle.gorsepick.specs.Made.{call_made};
+ghost use Rattle.gorsepick.specs.declared.answer.Answer.TheVariants as told;
 
 use crate::answer::{Answer, shown};
 use crate::book::Book;
@@ -34,7 +41,12 @@ pub(crate) struct Session {
 }
 
 impl Session {
-    pub(crate) fn new(heap: Global) -> Session {
+    // At first there is no store, counters serve, and no slot is open.
+    pub(crate) fn new(heap: Global) -> Session
+        ensures store { held result.memory ≡ None }
+        ensures arithmetic { delivered result.arithmetic ≡ counters }
+        ensures engine { engine_of result.engine.table ≡ fresh_engine }
+    {
         Session {
             memory: None,
             arithmetic: Delivered::Counting,
@@ -52,7 +64,9 @@ impl Session {
         &mut self,
         heap: Global,
         command: Command,
-    ) -> Result<Option<Answer>, AllocError> {
+    ) -> Result<Option<Answer>, AllocError>
+        ensures { IfOk result (λ a. CarriedOut self.old command a self.new) }
+    {
         let answer = match command {
             Command::Store(memory) => self.take_store(heap, memory)?,
             Command::Arithmetic(arithmetic) => {
@@ -72,8 +86,7 @@ impl Session {
 
     // The host changes store, arithmetic or pages; before the first store there is nothing to change.
     fn note_change(&mut self)
-        ensures store { held self.new.memory ≡ held self.old.memory }
-        ensures engine { self.new.engine ≡ self.old.engine }
+        ensures { SameButBook self.old self.new }
     {
         if self.memory.is_some() {
             self.book.spoil();
@@ -90,7 +103,12 @@ impl Session {
         }
     }
 
-    fn ask_as_host(&mut self, heap: Global, request: Request) -> Result<Answer, AllocError> {
+    // Asks the store, as the host does: the book is to know of a change.
+    fn ask_as_host(&mut self, heap: Global, request: Request) -> Result<Answer, AllocError>
+        ensures answered { IfOk result (λ a. AnsweredBy (delivered self.old.arithmetic) request (held self.old.memory) a (held self.new.memory)) }
+        ensures failed { OnErr result (held self.new.memory ≡ held self.old.memory) }
+        ensures engine { self.new.engine ≡ self.old.engine }
+    {
         let answer = self.ask(heap, request)?;
         if answer.is_change() {
             self.note_change();
@@ -100,8 +118,8 @@ impl Session {
 
     // What is asked of the engine, between calls, or of the serial book.
     fn look(&mut self, heap: Global, question: Question) -> Result<Answer, AllocError>
-        ensures store { held self.new.memory ≡ held self.old.memory }
-        ensures engine { self.new.engine ≡ self.old.engine }
+        ensures looked { IfOk result (Looked question self.old.engine) }
+        ensures same { SameButBook self.old self.new }
     {
         self.uses_engine = true;
         match question {
@@ -122,8 +140,8 @@ impl Session {
     }
 
     fn book_pages(&mut self, heap: Global) -> Result<Answer, AllocError>
-        ensures store { held self.new.memory ≡ held self.old.memory }
-        ensures engine { self.new.engine ≡ self.old.engine }
+        ensures pages { IfOk result (λ a. (v : Vec ℕ) × (a ≡ told.Pages v)) }
+        ensures same { SameButBook self.old self.new }
     {
         self.begin_book(heap)?;
         Ok(Answer::Pages(match self.book.begun() {
@@ -134,8 +152,7 @@ impl Session {
 
     // Begins the book, where it waits for that and a store is given.
     pub(crate) fn begin_book(&mut self, heap: Global) -> Result<(), AllocError>
-        ensures store { held self.new.memory ≡ held self.old.memory }
-        ensures engine { self.new.engine ≡ self.old.engine }
+        ensures { SameButBook self.old self.new }
     {
         match &mut self.memory {
             Some(memory) if self.book.begun().is_none() => {
@@ -149,7 +166,9 @@ impl Session {
     }
 
     // Makes one of the five calls, and enters it in the book.
-    fn make(&mut self, heap: Global, made: Made) -> Result<Answer, AllocError> {
+    fn make(&mut self, heap: Global, made: Made) -> Result<Answer, AllocError>
+        ensures { IfOk result (λ a. CallMade self.old (call_made made) a self.new) }
+    {
         self.uses_engine = true;
         self.begin_book(heap)?;
         let spoiled = match &made {
@@ -158,16 +177,27 @@ impl Session {
         };
         let answer = self.call(&made);
         self.enter(heap, &made, answer)?;
+        self.count_commit(answer, spoiled.as_slice());
+        self.book.keep(made, answer)?;
+        show_call(heap, answer)
+    }
+
+    // Counts a commit, and how the slots that it spoiled go on.
+    fn count_commit(&mut self, answer: serial::Answer, spoiled: &[u32])
+        ensures { SameButBook self.old self.new }
+    {
         if let Ok(Accepted::Committed(_, _)) = answer {
             self.committed = self.committed.saturating_add(1);
-            self.spoils.count(&self.engine, spoiled.as_slice());
+            self.spoils.count(&self.engine, spoiled);
         }
-        self.book.keep(made, answer)?;
-        shown(heap, answer, |accepted| Answer::Accepted(accepted))
     }
 
     // Makes a call with the store. Until a scenario gives one, a flat store with no words stands in for it.
-    fn call(&mut self, made: &Made) -> serial::Answer {
+    fn call(&mut self, made: &Made) -> serial::Answer
+        ensures rule { does (delivered self.old.arithmetic) (call_made made.now) (state_of self.old.engine (store_pages self.old.memory)) ≡ (state_of self.new.engine (store_pages self.new.memory), result) }
+        ensures puts { PutsBy (held self.old.memory) (list_put (engine_of self.old.engine.table) (call_made made.now) result) (held self.new.memory) }
+        ensures arithmetic { self.new.arithmetic ≡ self.old.arithmetic }
+    {
         let call = made.as_call();
         let (engine, arithmetic) = (&mut self.engine, &self.arithmetic);
         match &mut self.memory {
@@ -180,12 +210,9 @@ impl Session {
     }
 
     // Enters a call in the book, where it is accepted.
-    fn enter(
-        &mut self,
-        heap: Global,
-        made: &Made,
-        answer: serial::Answer,
-    ) -> Result<(), AllocError> {
+    fn enter(&mut self, heap: Global, made: &Made, answer: serial::Answer) -> Result<(), AllocError>
+        ensures { SameButBook self.old self.new }
+    {
         match (made, answer) {
             (Made::Allow { allowance }, Ok(Accepted::Allowed)) => {
                 self.allowance = *allowance;
@@ -211,7 +238,9 @@ impl Session {
         heap: Global,
         slot: u32,
         told: (u32, usize),
-    ) -> Result<(), AllocError> {
+    ) -> Result<(), AllocError>
+        ensures { SameButBook self.old self.new }
+    {
         match self.book.strike_out(slot) {
             Some(bytes) => self.book.run(bytes.as_slice(), self.arithmetic, told),
             None => {
@@ -232,7 +261,12 @@ impl Session {
         Ok(same && self.memory == Some(memory))
     }
 
-    fn take_store(&mut self, heap: Global, memory: Memory) -> Result<Answer, AllocError> {
+    // From here on there is this store.
+    fn take_store(&mut self, heap: Global, memory: Memory) -> Result<Answer, AllocError>
+        ensures store { held self.new.memory ≡ held (Some memory) }
+        ensures size { IfOk result (λ a. a ≡ told.Size (length (memory_pages memory))) }
+        ensures engine { self.new.engine ≡ self.old.engine }
+    {
         self.note_change();
         self.memory = Some(memory);
         self.ask(heap, Request::Size)
@@ -241,8 +275,7 @@ impl Session {
     // All pages of the store.
     pub(crate) fn pages(&mut self, heap: Global) -> Result<Vec<u32>, AllocError>
         ensures pages { IfOk result (λ v. v.items ≡ store_pages self.old.memory) }
-        ensures store { held self.new.memory ≡ held self.old.memory }
-        ensures engine { self.new.engine ≡ self.old.engine }
+        ensures same { SameButBook self.old self.new }
     {
         match &mut self.memory {
             None => Ok(Vec::new(heap)),
@@ -265,6 +298,12 @@ impl Session {
             }
         }
     }
+}
+
+fn show_call(heap: Global, answer: serial::Answer) -> Result<Answer, AllocError>
+    ensures { IfOk result (ShowsTold answer told.Accepted) }
+{
+    shown(heap, answer, |accepted| Answer::Accepted(accepted))
 }
 
 fn is_any_open(engine: &Engine) -> bool {
