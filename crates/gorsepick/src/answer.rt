@@ -67,7 +67,8 @@ pub(crate) fn shown<T, E: Refusal + Drop, F: FnOnce(T) -> Answer>(
     show: F,
 ) -> Result<Answer, AllocError>
     requires { F.IsAlwaysCallable show }
-    ensures answered { IfOk result (λ a. MatchResult told (λ x. F.post show x a) (λ e. Refuses (E.Refusal.cause e) (E.Refusal.returned e) a)) }
+    ensures answered { IfOk result (λ a. MatchResult told (λ x. F.post show x a)
+        (λ e. Refuses (E.Refusal.cause e) (E.Refusal.returned e) a)) }
     ensures failed { OnErr result (IsErr told) }
 {
     match told {

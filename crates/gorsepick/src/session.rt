@@ -105,7 +105,9 @@ impl Session {
 
     // Asks the store, as the host does: the book is to know of a change.
     fn ask_as_host(&mut self, heap: Global, request: Request) -> Result<Answer, AllocError>
-        ensures answered { IfOk result (λ a. AnsweredBy (delivered self.old.arithmetic) request (held self.old.memory) a (held self.new.memory)) }
+        ensures answered { IfOk result (λ a.
+            AnsweredBy (delivered self.old.arithmetic) request (held self.old.memory) a
+            (held self.new.memory)) }
         ensures failed { OnErr result (held self.new.memory ≡ held self.old.memory) }
         ensures engine { self.new.engine ≡ self.old.engine }
     {
@@ -194,8 +196,12 @@ impl Session {
 
     // Makes a call with the store. Until a scenario gives one, a flat store with no words stands in for it.
     fn call(&mut self, made: &Made) -> serial::Answer
-        ensures rule { does (delivered self.old.arithmetic) (call_made made.now) (state_of self.old.engine (store_pages self.old.memory)) ≡ (state_of self.new.engine (store_pages self.new.memory), result) }
-        ensures puts { PutsBy (held self.old.memory) (list_put (engine_of self.old.engine.table) (call_made made.now) result) (held self.new.memory) }
+        ensures rule { does (delivered self.old.arithmetic) (call_made made.now)
+            (state_of self.old.engine (store_pages self.old.memory))
+            ≡ (state_of self.new.engine (store_pages self.new.memory), result) }
+        ensures puts { PutsBy (held self.old.memory)
+            (list_put (engine_of self.old.engine.table) (call_made made.now) result)
+            (held self.new.memory) }
         ensures arithmetic { self.new.arithmetic ≡ self.old.arithmetic }
     {
         let call = made.as_call();
@@ -285,7 +291,9 @@ impl Session {
 
     // Asks the store, whichever kind it is. Until a scenario gives one, a flat store with no words stands in for it.
     fn ask(&mut self, heap: Global, request: Request) -> Result<Answer, AllocError>
-        ensures answered { IfOk result (λ a. AnsweredBy (delivered self.old.arithmetic) request (held self.old.memory) a (held self.new.memory)) }
+        ensures answered { IfOk result (λ a.
+            AnsweredBy (delivered self.old.arithmetic) request (held self.old.memory) a
+            (held self.new.memory)) }
         ensures failed { OnErr result (held self.new.memory ≡ held self.old.memory) }
         ensures engine { self.new.engine ≡ self.old.engine }
     {

@@ -47,7 +47,8 @@ pub(crate) fn answer_in(
     arithmetic: Delivered,
     request: Request,
 ) -> Result<Answer, AllocError>
-    ensures answered { IfOk result (λ a. AnsweredIn kind (delivered arithmetic) request words.old a words.new) }
+    ensures answered { IfOk result (λ a.
+        AnsweredIn kind (delivered arithmetic) request words.old a words.new) }
     ensures failed { OnErr result (words.new ≡ words.old) }
 {
     match kind {
@@ -62,7 +63,8 @@ fn answer_flat(
     arithmetic: Delivered,
     request: Request,
 ) -> Result<Answer, AllocError>
-    ensures answered { IfOk result (λ a. AnsweredIn of.Flat (delivered arithmetic) request store.old.words.now a store.new.words.now) }
+    ensures answered { IfOk result (λ a. AnsweredIn of.Flat (delivered arithmetic) request
+        store.old.words.now a store.new.words.now) }
     ensures failed { OnErr result (store.new.words.now ≡ store.old.words.now) }
     ensures lender { store.new.words.ghost_name ≡ store.old.words.ghost_name }
 {
@@ -75,7 +77,8 @@ fn answer_log(
     arithmetic: Delivered,
     request: Request,
 ) -> Result<Answer, AllocError>
-    ensures answered { IfOk result (λ a. AnsweredIn of.Log (delivered arithmetic) request store.old.words.now a store.new.words.now) }
+    ensures answered { IfOk result (λ a. AnsweredIn of.Log (delivered arithmetic) request
+        store.old.words.now a store.new.words.now) }
     ensures failed { OnErr result (store.new.words.now ≡ store.old.words.now) }
     ensures lender { store.new.words.ghost_name ≡ store.old.words.ghost_name }
 {
@@ -90,8 +93,11 @@ pub(crate) fn call_in(
     call: &Call,
     arithmetic: &Delivered,
 ) -> serial::Answer
-    ensures rule { does (delivered arithmetic.now) (call_of call.now) (state_of engine.old (kind_pages kind words.old)) ≡ (state_of engine.new (kind_pages kind words.new), result) }
-    ensures puts { Chain (kind_wrote kind) words.old (list_put (engine_of engine.old.table) (call_of call.now) result) words.new }
+    ensures rule { does (delivered arithmetic.now) (call_of call.now)
+        (state_of engine.old (kind_pages kind words.old))
+        ≡ (state_of engine.new (kind_pages kind words.new), result) }
+    ensures puts { Chain (kind_wrote kind) words.old
+        (list_put (engine_of engine.old.table) (call_of call.now) result) words.new }
 {
     match kind {
         Kind::Flat => call_flat(&mut Flat::new(words), engine, call, arithmetic),
@@ -105,8 +111,11 @@ fn call_flat(
     call: &Call,
     arithmetic: &Delivered,
 ) -> serial::Answer
-    ensures rule { does (delivered arithmetic.now) (call_of call.now) (state_of engine.old (kind_pages of.Flat store.old.words.now)) ≡ (state_of engine.new (kind_pages of.Flat store.new.words.now), result) }
-    ensures puts { Chain (kind_wrote of.Flat) store.old.words.now (list_put (engine_of engine.old.table) (call_of call.now) result) store.new.words.now }
+    ensures rule { does (delivered arithmetic.now) (call_of call.now)
+        (state_of engine.old (kind_pages of.Flat store.old.words.now))
+        ≡ (state_of engine.new (kind_pages of.Flat store.new.words.now), result) }
+    ensures puts { Chain (kind_wrote of.Flat) store.old.words.now
+        (list_put (engine_of engine.old.table) (call_of call.now) result) store.new.words.now }
     ensures lender { store.new.words.ghost_name ≡ store.old.words.ghost_name }
 {
     engine.call(call, store, arithmetic)
@@ -118,8 +127,11 @@ fn call_log(
     call: &Call,
     arithmetic: &Delivered,
 ) -> serial::Answer
-    ensures rule { does (delivered arithmetic.now) (call_of call.now) (state_of engine.old (kind_pages of.Log store.old.words.now)) ≡ (state_of engine.new (kind_pages of.Log store.new.words.now), result) }
-    ensures puts { Chain (kind_wrote of.Log) store.old.words.now (list_put (engine_of engine.old.table) (call_of call.now) result) store.new.words.now }
+    ensures rule { does (delivered arithmetic.now) (call_of call.now)
+        (state_of engine.old (kind_pages of.Log store.old.words.now))
+        ≡ (state_of engine.new (kind_pages of.Log store.new.words.now), result) }
+    ensures puts { Chain (kind_wrote of.Log) store.old.words.now
+        (list_put (engine_of engine.old.table) (call_of call.now) result) store.new.words.now }
     ensures lender { store.new.words.ghost_name ≡ store.old.words.ghost_name }
 {
     engine.call(call, store, arithmetic)
@@ -131,7 +143,9 @@ fn answer<S: Store>(
     arithmetic: Delivered,
     request: Request,
 ) -> Result<Answer, AllocError>
-    ensures answered { IfOk result (λ a. Answered S.Reader.pages S.Store.wrote (delivered arithmetic) request store.old a store.new) }
+    ensures answered { IfOk result (λ a.
+        Answered S.Reader.pages S.Store.wrote (delivered arithmetic) request
+        store.old a store.new) }
     ensures failed { OnErr result (store.new ≡ store.old) }
 {
     match request {
@@ -154,7 +168,9 @@ fn get<R: Reader>(reader: &R, page: u32) -> Answer
 }
 
 fn put<S: Store>(store: &mut S, page: u32, word: u32) -> Answer
-    ensures { (o : Result (Unit {0}) StoreFault) × Put S.Reader.pages S.Store.wrote store.old page word o store.new × (result ≡ put_answer o) }
+    ensures { (o : Result (Unit {0}) StoreFault)
+        × Put S.Reader.pages S.Store.wrote store.old page word o store.new
+        × (result ≡ put_answer o) }
 {
     match store.put(page, word) {
         Ok(()) => Answer::Written,
@@ -163,7 +179,9 @@ fn put<S: Store>(store: &mut S, page: u32, word: u32) -> Answer
 }
 
 fn load<S: Store>(heap: Global, store: &mut S, bytes: &[u8]) -> Result<Answer, AllocError>
-    ensures answered { IfOk result (λ a. (o : Result (Unit {0}) ImageLoadFault) × ImageLoaded S.Reader.pages S.Store.wrote bytes.now store.old o store.new × LoadAnswer o a) }
+    ensures answered { IfOk result (λ a. (o : Result (Unit {0}) ImageLoadFault)
+        × ImageLoaded S.Reader.pages S.Store.wrote bytes.now store.old o store.new
+        × LoadAnswer o a) }
     ensures failed { OnErr result (store.new ≡ store.old) }
 {
     shown(heap, load_image(bytes, store), |()| Answer::Loaded)
@@ -176,7 +194,10 @@ fn alone<S: Store>(
     arithmetic: Delivered,
     bytes: &[u8],
 ) -> Result<Answer, AllocError>
-    ensures answered { IfOk result (λ a. (o : Result (ℕ × ℕ) AloneFault) × RanAlone S.Reader.pages S.Store.wrote (delivered arithmetic) store.old (decoded bytes.now) o store.new × AloneAnswer o a) }
+    ensures answered { IfOk result (λ a. (o : Result (ℕ × ℕ) AloneFault)
+        × RanAlone S.Reader.pages S.Store.wrote (delivered arithmetic) store.old
+        (decoded bytes.now) o store.new
+        × AloneAnswer o a) }
     ensures failed { OnErr result (store.new ≡ store.old) }
 {
     match run_alone(bytes, store, &arithmetic) {

@@ -1,4 +1,6 @@
 // What the program says at the end, in plain words.
+ghost use Rattle.gorsepick.specs.Commands.{SameButBook};
+
 use crate::answer::Answer;
 use crate::book::Begun;
 use crate::failure::Failure;
@@ -30,7 +32,9 @@ pub(crate) fn print_summary(
     rt: &(impl Print + AllocGlobal),
     session: &mut Session,
     tally: Tally,
-) -> Result<(), Failure> {
+) -> Result<(), Failure>
+    ensures { SameButBook session.old session.new }
+{
     let pages = session.pages(rt.alloc())?;
     match session.memory.as_ref().map(|memory| memory.kind) {
         None => println!(rt; "No store was given.")?,
@@ -55,7 +59,9 @@ fn print_engine(
     rt: &(impl Print + AllocGlobal),
     session: &mut Session,
     pages: &[u32],
-) -> Result<(), Failure> {
+) -> Result<(), Failure>
+    ensures { SameButBook session.old session.new }
+{
     session.begin_book(rt.alloc())?;
     let committed = session.committed;
     println!(rt; "Transactions committed: {committed}.")?;

@@ -23,7 +23,7 @@ abbrev pub a_then_b : Run
 a_then_b =
     alone_runs counters three (runs A (answers 15 1 (15 ∷ 20 ∷ 30 ∷ [])) ∷ runs B (answers 35 1 (15 ∷ 20 ∷ 35 ∷ [])) ∷ [])
 
--- A takes four turns, B's leading shadow three
+-- four turns of A, and three of the shadow that leads for B
 abbrev pub a_before_b : List Event
 a_before_b = begins 0 A ∷ begins 1 B ∷ moves 4 0 0 ++ moves 3 1 1
 
