@@ -8,7 +8,7 @@ use Rattle.serial.specs.Faults.{Answer as Told, call_cause, call_returned}
 use Rattle.serial.specs.Rules.{Call, does, list_put}
 use Rattle.engine.specs.declared.engine.Engine.{Engine}
 use Rattle.engine.specs.Calls.{state_of}
-use Rattle.engine.specs.Questions.{stand_told, entry_told}
+use Rattle.serial.specs.Questions.{stand_told, entry_told}
 use Rattle.engine.specs.Table.{engine_of}
 use Rattle.gorsepick.specs.Answers.{Refuses, ShowsImage, ShowsWords, AnsweredBy, PutsBy}
 use Rattle.gorsepick.specs.Kinds.{memory_pages, store_pages, held}
