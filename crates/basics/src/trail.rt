@@ -1,5 +1,5 @@
 // A list with fixed room, copied by value: a controller has no heap to run out of.
-ghost use Rattle.std.specs.Prelude.{◌≡◌, ◌≤◌, [], length, slice_set};
+ghost use Rattle.std.specs.Prelude.{◌≡◌, ◌≤◌, [], length, slice_set, OnErr};
 ghost use Rattle.std.specs.List.{slice_get};
 ghost use Rattle.basics.specs.Trail.{items_of, pushed, push_told};
 
@@ -51,6 +51,7 @@ impl<T: Copy, const N: usize> Trail<T, N> {
     pub fn push(&mut self, item: T) -> Result<(), Full>
         ensures told { result ≡ push_told N (items_of self.old) }
         ensures items { items_of self.new ≡ pushed N (items_of self.old) item }
+        ensures declined { OnErr result (self.new ≡ self.old) }
     {
         let at = self.len();
         if at == N {
