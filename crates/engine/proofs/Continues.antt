@@ -7,10 +7,10 @@ use Rattle.serial.proofs.Continued.{started, continued}
 use Rattle.engine.specs.declared.engine.Engine.{Engine as Held}
 use Rattle.engine.specs.Table.{engine_of}
 use Rattle.engine.specs.Calls.{state_of}
-use Rattle.engine.specs.History.{StartedOverAny, ContinuedByAny, ContinuedOverAny}
+use Rattle.engine.specs.History.{AsFreshOverAny, ContinuedByAny, ContinuedOverAny}
 
-pub started_any : (e : Held) → engine_of e.table ≡ fresh_engine → StartedOverAny e
-started_any e h = record { over = λ ar pages. started ar (state_of e pages) (ap (λ (x : Engine). record { engine = x; pages = pages }) h) }
+pub as_fresh_any : (e : Held) → engine_of e.table ≡ fresh_engine → AsFreshOverAny e
+as_fresh_any e h = record { over = λ ar pages. started ar (state_of e pages) (ap (λ (x : Engine). record { engine = x; pages = pages }) h) }
 
 pub by_any : (s : State) (c : Call) (a : Answer) (s' : State) → ((ar : Meaning) → does ar c s ≡ (s', a)) → ContinuedByAny s c a s'
 by_any s c a s' h = record { by = λ ar. continued ar s c a s' (h ar) }

@@ -9,7 +9,7 @@ use Rattle.engine.specs.declared.engine.Engine.{Engine as Held}
 use Rattle.engine.specs.declared.engine.booking.Call.{Call as Given}
 use Rattle.engine.specs.declared.engine.booking.Call.TheVariants.{SetAllowance, Begin, Turn, Commit, Abort}
 use Rattle.engine.specs.Table.{engine_of}
-use Rattle.engine.specs.Calls.{state_of}
+use Rattle.engine.specs.Calls.{state_of, OnStill}
 
 -- a call as the rules have it
 abbrev pub call_of : Given → Call
@@ -26,12 +26,13 @@ first_calls n calls = map call_of (take n calls)
 module _ {S : Type 0} (pages : S → List ℕ) (wrote : S → ℕ → ℕ → S → Type 0) (ar : Meaning) where
   -- one call took an engine and a store to an engine and a store, and was answered so: it did what the rules say, the
   -- memory behind the store went by what it puts, and where it was declined both are as they were, the engine's memory
-  -- and the store
+  -- and the store; where it was a turn that took no step, the engine's memory is
   pub record CallMade (e : Held) (s : S) (c : Call) (a : Answer) (e' : Held) (t : S) : Type 0 where
     pub rule : does ar c (state_of e (pages s)) ≡ (state_of e' (pages t), a)
     pub puts : Chain wrote s (list_put (engine_of e.table) c a) t
     pub declined : OnErr a (e'.table ≡ e.table)
     pub store : OnErr a (t ≡ s)
+    pub no_step : OnStill a (e'.table ≡ e.table)
 
   -- calls made one after the other, with their answers, each from the engine and the store that the one before it left
   abbrev pub CallsMade : List Call → List Answer → Held → S → Held → S → Type 0

@@ -6,7 +6,7 @@ use Rattle.serial.specs.declared.fault.CallFault.{CallFault}
 use Rattle.serial.specs.declared.fault.Turned.{Turned}
 use Rattle.serial.specs.declared.fault.Turned.TheVariants.{Moved, Ended, Waiting}
 use Rattle.serial.specs.declared.fault.Accepted.{Accepted}
-use Rattle.serial.specs.declared.fault.Accepted.TheVariants.{Committed}
+use Rattle.serial.specs.declared.fault.Accepted.TheVariants.{Allowed, Begun, Took, Committed, Aborted}
 use Rattle.serial.specs.Faults.{Answer}
 use Rattle.serial.specs.Rules.{State}
 use Rattle.engine.specs.Table.{engine_of}
@@ -30,9 +30,18 @@ abbrev pub PutsList : {S : Type 0} → (S → ℕ → ℕ → S → Type 0) → 
 PutsList wrote own s (Ok x) t = Chain wrote s own t
 PutsList wrote own s (Err fault) t = t ≡ s
 
--- what holds of a turn that is accepted and takes no step
+-- what holds of a turn that is accepted and takes no step, by what it answers
 abbrev pub OnNoStep : Result Turned CallFault → Type 0 → Type 0
 OnNoStep (Ok Moved) P = Unit {0}
 OnNoStep (Ok Ended) P = P
 OnNoStep (Ok Waiting) P = P
 OnNoStep (Err fault) P = Unit {0}
+
+-- the same of any call, by its answer
+abbrev pub OnStill : Answer → Type 0 → Type 0
+OnStill (Ok Allowed) P = Unit {0}
+OnStill (Ok Begun) P = Unit {0}
+OnStill (Ok (Took how)) P = OnNoStep (Ok how) P
+OnStill (Ok (Committed word pages)) P = Unit {0}
+OnStill (Ok Aborted) P = Unit {0}
+OnStill (Err fault) P = Unit {0}

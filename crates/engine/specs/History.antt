@@ -3,13 +3,13 @@ use Rattle.std.specs.Prelude.{ℕ, List}
 use Rattle.serial.specs.Faults.{Answer}
 use Rattle.serial.specs.Machine.{Meaning}
 use Rattle.serial.specs.Rules.{State, Call}
-use Rattle.serial.specs.History.{Started, Continued}
+use Rattle.serial.specs.History.{AsFresh, Continued}
 use Rattle.engine.specs.declared.engine.Engine.{Engine as Held}
 use Rattle.engine.specs.Calls.{state_of}
 
--- no call has been made on the engine yet, whatever pages and whatever arithmetic it is to be called with
-pub record StartedOverAny (e : Held) : Type 0 where
-  pub over : (ar : Meaning) (pages : List ℕ) → Started ar (state_of e pages)
+-- the engine is as fresh, whatever pages and whatever arithmetic it is to be called with
+pub record AsFreshOverAny (e : Held) : Type 0 where
+  pub over : (ar : Meaning) (pages : List ℕ) → AsFresh ar (state_of e pages)
 
 -- a call that is given no arithmetic, answered so, took s to s', and goes on with every history, whatever arithmetic the
 -- other calls are given

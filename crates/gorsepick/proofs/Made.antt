@@ -19,17 +19,18 @@ module _ (old mid called entered new : Session) (call : Call) (answer : Told) wh
   call_so : (a : Answer) → SameButBook old mid
       → does (delivered mid.arithmetic) call (state_of mid.engine (store_pages mid.memory)) ≡ (state_of called.engine (store_pages called.memory), answer)
       → PutsBy (held mid.memory) (list_put (engine_of mid.engine.table) call answer) (held called.memory)
-      → SameButBook called new → ShowsTold answer told.Accepted a → CallMade old call a new
-  call_so a s rule puts k shown = record {
+      → called.arithmetic ≡ mid.arithmetic → SameButBook called new → ShowsTold answer told.Accepted a → CallMade old call a new
+  call_so a s rule puts same k shown = record {
     answer = answer;
     rule = rw (← s.arithmetic, ← s.engine, ← s.store, k.engine, k.store) rule;
     puts = rw (← s.store, ← s.engine, k.store) puts;
     shown = shown;
+    arithmetic = k.arithmetic ∙ same ∙ s.arithmetic;
   }
 
   pub made_so : {E : Type 0} (r : Result Answer E) → SameButBook old mid
       → does (delivered mid.arithmetic) call (state_of mid.engine (store_pages mid.memory)) ≡ (state_of called.engine (store_pages called.memory), answer)
       → PutsBy (held mid.memory) (list_put (engine_of mid.engine.table) call answer) (held called.memory)
-      → SameButBook called entered → SameButBook entered new → IfOk r (ShowsTold answer told.Accepted) → IfOk r (λ a. CallMade old call a new)
-  made_so (Ok a) s rule puts k l shown = call_so a s rule puts (same_twice called entered new k l) shown
-  made_so (Err e) s rule puts k l shown = tt
+      → called.arithmetic ≡ mid.arithmetic → SameButBook called entered → SameButBook entered new → IfOk r (ShowsTold answer told.Accepted) → IfOk r (λ a. CallMade old call a new)
+  made_so (Ok a) s rule puts same k l shown = call_so a s rule puts same (same_twice called entered new k l) shown
+  made_so (Err e) s rule puts same k l shown = tt

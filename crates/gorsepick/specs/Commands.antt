@@ -45,14 +45,15 @@ pub record CallMade (old : Session) (call : Call) (a : Answer) (new : Session) :
   pub rule : does (delivered old.arithmetic) call (state_of old.engine (store_pages old.memory)) ≡ (state_of new.engine (store_pages new.memory), answer)
   pub puts : PutsBy (held old.memory) (list_put (engine_of old.engine.table) call answer) (held new.memory)
   pub shown : ShowsTold answer told.Accepted a
+  pub arithmetic : new.arithmetic ≡ old.arithmetic
 
 -- a command was carried out and answered, where it has an answer
 abbrev pub CarriedOut : Session → Command → Option Answer → Session → Type 0
-CarriedOut old (Store m) a new = (held new.memory ≡ held (Some m)) × (new.engine ≡ old.engine) × (a ≡ Some (told.Size (length (memory_pages m))))
+CarriedOut old (Store m) a new = (held new.memory ≡ held (Some m)) × (new.engine ≡ old.engine) × (new.arithmetic ≡ old.arithmetic) × (a ≡ Some (told.Size (length (memory_pages m))))
 CarriedOut old (Arithmetic x) a new = (held new.memory ≡ held old.memory) × (new.engine ≡ old.engine) × (new.arithmetic ≡ x) × (a ≡ None)
 CarriedOut old Script a new = SameButBook old new × (a ≡ None)
 CarriedOut old (Image bytes) a new = SameButBook old new × ((x : Answer) × (a ≡ Some x) × ShowsImage (vec_items bytes) (image_fault (vec_items bytes)) x)
 CarriedOut old Words a new = SameButBook old new × ((x : Answer) × (a ≡ Some x) × ShowsWords (held old.memory) x)
-CarriedOut old (Ask request) a new = (new.engine ≡ old.engine) × ((x : Answer) × (a ≡ Some x) × AnsweredBy (delivered old.arithmetic) request (held old.memory) x (held new.memory))
+CarriedOut old (Ask request) a new = (new.engine ≡ old.engine) × (new.arithmetic ≡ old.arithmetic) × ((x : Answer) × (a ≡ Some x) × AnsweredBy (delivered old.arithmetic) request (held old.memory) x (held new.memory))
 CarriedOut old (Make made) a new = (x : Answer) × (a ≡ Some x) × CallMade old (call_made made) x new
 CarriedOut old (Look question) a new = SameButBook old new × ((x : Answer) × (a ≡ Some x) × Looked question old.engine x)

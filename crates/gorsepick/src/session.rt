@@ -110,6 +110,7 @@ impl Session {
             (held self.new.memory)) }
         ensures failed { OnErr result (held self.new.memory ≡ held self.old.memory) }
         ensures engine { self.new.engine ≡ self.old.engine }
+        ensures arithmetic { self.new.arithmetic ≡ self.old.arithmetic }
     {
         let answer = self.ask(heap, request)?;
         if answer.is_change() {
@@ -272,6 +273,7 @@ impl Session {
         ensures store { held self.new.memory ≡ held (Some memory) }
         ensures size { IfOk result (λ a. a ≡ told.Size (length (memory_pages memory))) }
         ensures engine { self.new.engine ≡ self.old.engine }
+        ensures arithmetic { self.new.arithmetic ≡ self.old.arithmetic }
     {
         self.note_change();
         self.memory = Some(memory);
@@ -296,6 +298,7 @@ impl Session {
             (held self.new.memory)) }
         ensures failed { OnErr result (held self.new.memory ≡ held self.old.memory) }
         ensures engine { self.new.engine ≡ self.old.engine }
+        ensures arithmetic { self.new.arithmetic ≡ self.old.arithmetic }
     {
         let arithmetic = self.arithmetic;
         match &mut self.memory {

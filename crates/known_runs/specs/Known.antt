@@ -6,7 +6,7 @@ use Rattle.known_runs.specs.Plain.{a_then_b_flags, edge_pages, indexed_around, i
 use Rattle.known_runs.specs.Shadows.{rescue, meets_around, rising_order, replaced, not_replaced, abort_takes, tie_leading, tie_smallest, stale}
 use Rattle.known_runs.specs.Refusals.{slot_numbers, allowances, openings, closed_slots, pages_off, far_pages, smaller_store, before_pages_off, shadow_off, read_off, write_off}
 
--- the runs that the guide to the engine goes through, in its order
+-- the runs of docs/ENGINE.md, 'Worked examples', in its order
 abbrev pub worked_examples : List Run
 worked_examples =
     a_alone ∷ b_alone ∷ a_then_b ∷ take_over ∷ reader_first ∷ late_write ∷ start_over ∷ script_sizes

@@ -1,7 +1,7 @@
 -- Known runs of scripts alone, of decoding and of log words. Assumes nothing.
 use Rattle.std.specs.Prelude.{[], ◌∷◌, replicate, Some, None}
 use Rattle.arithmetic.specs.Words.{counters, flags}
-use Rattle.known_runs.specs.Runs.{runs, answers, faults, no_script, accepted, refused, gives, page_holds, page_takes, Run, alone_runs, decodes, log_run}
+use Rattle.known_runs.specs.Runs.{runs, answers, faults, no_script, accepted, refused, gives, page_holds, no_page, page_takes, Run, alone_runs, decodes, log_run}
 use Rattle.known_runs.specs.Scripts.{A, B, script, reads, reads_from, puts, puts_from, reads_own, skips_if_zero, skips, single}
 use Rattle.known_runs.specs.Events.{three}
 
@@ -79,7 +79,7 @@ read_with_b = decodes (gives (single 0x01 0) (refused 6 (0 ∷ [])) ∷ [])
 abbrev pub roomy_log : Run
 roomy_log =
     log_run (3 ∷ 2 ∷ 1 ∷ 10 ∷ 20 ∷ 30 ∷ 2 ∷ 9 ∷ 35 ∷ 8 ∷ []) (
-    page_holds 2 (Some 35) ∷ page_holds 3 None ∷ page_takes 0 5 (3 ∷ 2 ∷ 2 ∷ 10 ∷ 20 ∷ 30 ∷ 2 ∷ 0 ∷ 35 ∷ 5 ∷ [])
-    ∷ page_holds 0 (Some 5) ∷ page_holds 1 (Some 20) ∷ page_takes 2 6 (3 ∷ 2 ∷ 1 ∷ 5 ∷ 20 ∷ 35 ∷ 2 ∷ 0 ∷ 6 ∷ 5 ∷ [])
-    ∷ page_holds 2 (Some 6) ∷ page_holds 0 (Some 5) ∷ []
+    page_holds 2 35 ∷ no_page 3 3 ∷ page_takes 0 5 (3 ∷ 2 ∷ 2 ∷ 10 ∷ 20 ∷ 30 ∷ 2 ∷ 0 ∷ 35 ∷ 5 ∷ [])
+    ∷ page_holds 0 5 ∷ page_holds 1 20 ∷ page_takes 2 6 (3 ∷ 2 ∷ 1 ∷ 5 ∷ 20 ∷ 35 ∷ 2 ∷ 0 ∷ 6 ∷ 5 ∷ [])
+    ∷ page_holds 2 6 ∷ page_holds 0 5 ∷ page_takes 3 7 (3 ∷ 2 ∷ 1 ∷ 5 ∷ 20 ∷ 35 ∷ 2 ∷ 0 ∷ 6 ∷ 5 ∷ []) ∷ []
     )

@@ -49,7 +49,7 @@ earlier n (fault step p) = None
 earlier n past_end = None
 
 -- A commit of t, which replaces the pages that its leading shadow has written, spoils another transaction v if v's script,
--- run alone over the pages of now to v's leading shadow's step, makes a store read of such a page. Told is where that run
+-- run alone over the present pages to v's leading shadow's step, makes a store read of such a page. The answer is where that run
 -- stands before its first such read
 abbrev pub spoiled_from : Meaning → State → ℕ → Option Steps → Option Stand → Option Stand
 spoiled_from ar s t None lead = None
@@ -123,21 +123,28 @@ abbrev pub decodings : List Given → List Given
 decodings [] = []
 decodings (gives bytes d ∷ rest) = gives bytes (decoding bytes (decoded bytes)) ∷ decodings rest
 
--- what is asked of the words of a log store: a page is looked at, and holds a word or is not there; a page is given a word,
--- and then the words are these
+-- what is asked of the words of a log store: a page is looked at, and holds a word, or the answer is a fault for a page; a
+-- page is given a word, and then the words are these, as before where it is not there
 pub data Logged : Type 0 where
-  page_holds : ℕ → Option ℕ → Logged
+  page_holds : ℕ → ℕ → Logged
+  no_page : ℕ → ℕ → Logged
   page_takes : ℕ → ℕ → List ℕ → Logged
 
-abbrev pub word_told : Result ℕ StoreFault → Option ℕ
-word_told (Ok w) = Some w
-word_told (Err f) = None
+-- a page that was looked at, with what the store answers
+abbrev pub looked : ℕ → Result ℕ StoreFault → Logged
+looked p (Ok w) = page_holds p w
+looked p (Err f) = no_page p f.page
+
+-- the words after a put, which changes nothing where the page is not below the size
+abbrev pub put_in : List ℕ → ℕ → ℕ → List ℕ
+put_in words p w = cond (nat_lt p (length (log_pages words))) (log_put words p w) words
 
 -- the same, with what a log store makes of it, one after the other
 abbrev pub logs : List ℕ → List Logged → List Logged
 logs words [] = []
-logs words (page_holds p held ∷ rest) = page_holds p (word_told (word_at (log_pages words) p)) ∷ logs words rest
-logs words (page_takes p w after ∷ rest) = page_takes p w (log_put words p w) ∷ logs (log_put words p w) rest
+logs words (page_holds p held ∷ rest) = looked p (word_at (log_pages words) p) ∷ logs words rest
+logs words (no_page p q ∷ rest) = looked p (word_at (log_pages words) p) ∷ logs words rest
+logs words (page_takes p w after ∷ rest) = page_takes p w (put_in words p w) ∷ logs (put_in words p w) rest
 
 -- a run of the engine from fresh, over these pages, with its events; scripts run alone, one after the other, over these
 -- pages; bytes decoded; the words of a log store, with what is asked of them

@@ -1,4 +1,4 @@
--- Worked examples: the runs that the guide to the engine goes through. Assumes nothing.
+-- Worked examples: the runs of docs/ENGINE.md, 'Worked examples'. Assumes nothing.
 --
 -- Where nothing else is said pages are 10, 20 and 30, counters serve, the allowance is 2, script A is in slot 0 and script B
 -- in slot 1.
@@ -6,7 +6,7 @@ use Rattle.std.specs.Prelude.{List, [], ◌∷◌, ◌++◌, Some}
 use Rattle.arithmetic.specs.Words.{counters}
 use Rattle.serial.specs.declared.fault.Standing.TheVariants.{AtEnd, Halted, Ready}
 use Rattle.serial.specs.Rules.{begin, turn}
-use Rattle.known_runs.specs.Runs.{Event, pages_are, runs, answers, accepted, refused, gives, page_holds, page_takes, Run, engine_run, alone_runs, decodes, log_run}
+use Rattle.known_runs.specs.Runs.{Event, pages_are, runs, answers, accepted, refused, gives, page_holds, no_page, page_takes, Run, engine_run, alone_runs, decodes, log_run}
 use Rattle.known_runs.specs.Scripts.{A, B, sets, reads, reads_from, skips, single}
 use Rattle.known_runs.specs.Events.{three, allows, begins, moves, waits, commits, declines, stands, lacks, stood, shown}
 
@@ -87,7 +87,7 @@ around =
 abbrev pub full_log : Run
 full_log =
     log_run (1 ∷ 1 ∷ 1 ∷ 5 ∷ 0 ∷ 9 ∷ []) (
-    page_holds 0 (Some 9) ∷ page_takes 0 7 (1 ∷ 1 ∷ 1 ∷ 9 ∷ 0 ∷ 7 ∷ []) ∷ page_holds 0 (Some 7) ∷ []
+    page_holds 0 9 ∷ page_takes 0 7 (1 ∷ 1 ∷ 1 ∷ 9 ∷ 0 ∷ 7 ∷ []) ∷ page_holds 0 7 ∷ []
     )
 
 -- slot 7 opens; there is no slot 8

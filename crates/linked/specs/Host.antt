@@ -25,10 +25,10 @@ abbrev pub words_put : Bool → List WriteEntry → List ℕ → List ℕ
 words_put log [] words = words
 words_put log (e ∷ es) words = words_put log es (word_put log words e.page e.word)
 
--- what a commit puts: the list, or nothing where it is refused
-abbrev pub list_told : List WriteEntry → ℕ → List WriteEntry
-list_told list zero = list
-list_told list (suc refusal) = []
+-- the list that a commit puts: all of it where the refusal number is 0, else nothing
+abbrev pub list_unless_refused : List WriteEntry → ℕ → List WriteEntry
+list_unless_refused list zero = list
+list_unless_refused list (suc refusal) = []
 
 -- flags or counters
 abbrev pub arithmetic_named : Bool → Meaning

@@ -74,6 +74,7 @@ abbrev pub AsItWas : ℕ → Type 0 → Type 0
 AsItWas zero P = Unit {0}
 AsItWas (suc refusal) P = P
 
--- what holds of a turn whose first value is not 0: of one that tells ended or waiting, and so takes no step
+-- what holds of a turn whose first value is not 0: of each that ended or waits, and of a refused one whose first value is not
+-- 0; `declined` says the same of every refused one
 abbrev pub OnNoStep : Told → Type 0 → Type 0
 OnNoStep t P = AsItWas (slice_index t.values 0) P

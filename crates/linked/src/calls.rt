@@ -10,7 +10,7 @@ ghost use Rattle.pages.specs.Pages.{Chain};
 ghost use Rattle.pages.specs.Flat.{flat_pages};
 ghost use Rattle.pages.specs.Log.{log_pages};
 ghost use Rattle.serial.specs.declared.fault.Accepted.TheVariants.{Took};
-ghost use Rattle.linked.specs.Host.{pages_in, words_put, list_told, arithmetic_named};
+ghost use Rattle.linked.specs.Host.{pages_in, words_put, list_unless_refused, arithmetic_named};
 ghost use Rattle.linked.specs.Told.{answer_told, AsItWas, OnNoStep, done_told, unit_told_by};
 ghost use Rattle.linked.specs.History.{ToldOf};
 
@@ -143,7 +143,7 @@ fn told_commit(res: Result<(u32, usize), CallFault>) -> Told
 // A commit to either store.
 fn commit_to<S: Store>(engine: &mut Handle, slot: u32, store: &mut S) -> Told
     ensures rule { done_told (commits (state_of engine.old.engine (S.Reader.pages store.old)) slot) ≡ (state_of engine.new.engine (S.Reader.pages store.new), result) }
-    ensures puts { Chain S.Store.wrote store.old (list_told (lead_writes (engine_of engine.old.engine.table) slot) result.refusal) store.new }
+    ensures puts { Chain S.Store.wrote store.old (list_unless_refused (lead_writes (engine_of engine.old.engine.table) slot) result.refusal) store.new }
     ensures declined { AsItWas result.refusal (engine.new.engine.table ≡ engine.old.engine.table) }
     ensures place { engine.new.at ≡ engine.old.at }
 {
@@ -153,7 +153,7 @@ fn commit_to<S: Store>(engine: &mut Handle, slot: u32, store: &mut S) -> Told
 // A commit to a log in the host's words. The words are lent on as before, so that the host finds in them what was put.
 fn commit_log(engine: &mut Handle, slot: u32, store: &mut Log) -> Told
     ensures rule { done_told (commits (state_of engine.old.engine (log_pages store.old.words.now)) slot) ≡ (state_of engine.new.engine (log_pages store.new.words.now), result) }
-    ensures words { store.new.words.now ≡ words_put true (list_told (lead_writes (engine_of engine.old.engine.table) slot) result.refusal) store.old.words.now }
+    ensures words { store.new.words.now ≡ words_put true (list_unless_refused (lead_writes (engine_of engine.old.engine.table) slot) result.refusal) store.old.words.now }
     ensures lender { store.new.words.ghost_name ≡ store.old.words.ghost_name }
     ensures declined { AsItWas result.refusal (engine.new.engine.table ≡ engine.old.engine.table) }
     ensures place { engine.new.at ≡ engine.old.at }
@@ -164,7 +164,7 @@ fn commit_log(engine: &mut Handle, slot: u32, store: &mut Log) -> Told
 // And to a flat store there.
 fn commit_flat(engine: &mut Handle, slot: u32, store: &mut Flat) -> Told
     ensures rule { done_told (commits (state_of engine.old.engine (flat_pages store.old.words.now)) slot) ≡ (state_of engine.new.engine (flat_pages store.new.words.now), result) }
-    ensures words { store.new.words.now ≡ words_put false (list_told (lead_writes (engine_of engine.old.engine.table) slot) result.refusal) store.old.words.now }
+    ensures words { store.new.words.now ≡ words_put false (list_unless_refused (lead_writes (engine_of engine.old.engine.table) slot) result.refusal) store.old.words.now }
     ensures lender { store.new.words.ghost_name ≡ store.old.words.ghost_name }
     ensures declined { AsItWas result.refusal (engine.new.engine.table ≡ engine.old.engine.table) }
     ensures place { engine.new.at ≡ engine.old.at }
@@ -183,7 +183,7 @@ pub extern "C" fn gorsepick_commit(
     ensures history { ToldOf (λ a. ContinuedByAny
         (state_of engine.old.engine (pages_in log words.old)) (commit slot) a
         (state_of engine.new.engine (pages_in log words.new))) result }
-    ensures words { words.new ≡ words_put log (list_told (lead_writes (engine_of engine.old.engine.table) slot) result.refusal) words.old }
+    ensures words { words.new ≡ words_put log (list_unless_refused (lead_writes (engine_of engine.old.engine.table) slot) result.refusal) words.old }
     ensures declined { AsItWas result.refusal (engine.new.engine.table ≡ engine.old.engine.table) }
     ensures place { engine.new.at ≡ engine.old.at }
 {

@@ -24,8 +24,8 @@ abbrev pub LastWord : (ℕ → ℕ) → (ℕ → ℕ) → ℕ → ℕ → ℕ �
 LastWord page word n p old w =
     ((i : ℕ) × LastNaming page n p i × (w ≡ word i)) ⊎ (((i : ℕ) → i < n → page i ≢ p) × (w ≡ old))
 
--- a sound layout: up to 4,096 pages, room for 1 to 4,096 entries and no more of them used, not a word besides the sizes, the
--- base words and the entries, and each used entry names a page that there is
+-- a sound layout: up to 4,096 pages, room for 1 to 4,096 entries, no more entries used than there is room for, no words but
+-- the sizes, the base words and the entries, and each used entry names a page that there is
 pub record IsSound (ws : List ℕ) : Type 0 where
   pub few : size_word ws ≤ 4096
   pub some : 1 ≤ capacity ws

@@ -160,13 +160,13 @@ module _ (bs : List ℕ) (i : ℕ) where
   stands : (s : Step) → step_at bs i ≡ Some s → StandsAt bs (slice_index bs 0) i s
   stands s e =
       let says = found (steps_told bs) i (code_at bs i) (operand_at bs i) s e in
-      record { coded = says.coded; beside = sym same_number ∙ says.beside; taken = says.taken }
+      record { coded = says.coded; beside = sym same_number ∙ says.beside; operand_fits = says.taken }
 
   stood : (s : Step) → StandsAt bs (slice_index bs 0) i s → step_at bs i ≡ Some s
   stood s h =
       ap (λ c. step_of (steps_told bs) i c (operand_at bs i)) h.coded
       ∙ ap (step_of (steps_told bs) i (code_of s.action)) (same_number ∙ h.beside)
-      ∙ to_defined (steps_told bs) i s.action s.operand h.taken
+      ∙ to_defined (steps_told bs) i s.action s.operand h.operand_fits
 
 -- one step at most stands at a place
 one_step : (bs : List ℕ) (i : ℕ) (s t : Step) → StandsAt bs (slice_index bs 0) i s → StandsAt bs (slice_index bs 0) i t → s ≡ t

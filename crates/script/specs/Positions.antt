@@ -42,7 +42,7 @@ number_at bs at = 256 * (256 * (256 * slice_index bs at + slice_index bs (at + 1
 pub record StandsAt (bs : List ℕ) (n i : ℕ) (s : Step) : Type 0 where
   pub coded : slice_index bs (1 + i) ≡ code_of s.action
   pub beside : number_at bs (1 + n + 4 * i) ≡ s.operand
-  pub taken : Takes n i s.action s.operand
+  pub operand_fits : Takes n i s.action s.operand
 
 -- byte 0 is n, 1 to 16, and there are 1 + 5n bytes
 pub record IsFit (bs : List ℕ) : Type 0 where
@@ -69,6 +69,6 @@ DecodesTo bs (Ok ss) = IsScript bs ss
 DecodesTo bs (Err (Unfit n)) = (IsFit bs → ⊥) × (n ≡ length bs)
 DecodesTo bs (Err (Undefined i)) = FirstBare bs i
 
--- decoding gives just what the bytes come to, which is one thing
+-- decoding gives r exactly if the bytes come to r, so that they come to one result
 abbrev pub DecodedByPosition : List ℕ → Type 0
 DecodedByPosition bs = (r : Result (List Step) ScriptFault) → (decoded bs ≡ r) ↔ DecodesTo bs r

@@ -4,11 +4,11 @@ use Rattle.std.proofs.Common.{◌≡◌, ℕ, List, [], ◌∷◌, ◌++◌, sym
 use Rattle.serial.specs.Faults.{Answer}
 use Rattle.serial.specs.Machine.{Meaning}
 use Rattle.serial.specs.Rules.{State, fresh, Call, does, after, answers}
-use Rattle.serial.specs.History.{History, Started, Continued}
+use Rattle.serial.specs.History.{History, AsFresh, Continued}
 use Rattle.serial.proofs.Booking.{every_list_booked}
 use Rattle.serial.proofs.Histories.{after_push, answers_push}
 
-pub started : (ar : Meaning) (s : State) → s ≡ fresh s.pages → Started ar s
+pub started : (ar : Meaning) (s : State) → s ≡ fresh s.pages → AsFresh ar s
 started ar s h =
     let none : History ar s.pages [] [] s = record { state = sym h; answered = refl; booked = every_list_booked ar s.pages [] } in
     record { none_yet = none; has = record { calls = []; told = []; history = none } }

@@ -12,7 +12,7 @@ use Rattle.serial.specs.Machine.{Meaning, Steps, Stand, start, store_read, has_r
 use Rattle.serial.specs.Alone.{there, next, go_on, first_stand, on_list, before_read_of}
 use Rattle.serial.specs.Laws.{Leads, here, more}
 use Rattle.serial.specs.Rules.{Row, State, fresh, shadow, own_of, lead_writes, count, after}
-use Rattle.serial.specs.OneStep.{Stands, IsOff, Reads}
+use Rattle.serial.specs.OneStep.{OnList, NotOnList, Reads}
 use Rattle.serial.specs.Guesses.{HasRead, HasWritten, Guesses, ShadowsGuess, TestsInWords, SpoilsExactly, SpoiledByReads}
 use Rattle.serial.proofs.Table.{none_is_some, some_is}
 use Rattle.serial.proofs.Steps.{noted}
@@ -27,7 +27,7 @@ abbrev read_at : ℕ → ℕ → Option ReadEntry
 read_at step p = Some (record { step = step; page = p })
 
 -- reads that name a page of a list, by the test
-any_read : (rs : List ReadEntry) (es : List WriteEntry) (i step p w : ℕ) → slice_get rs i ≡ Some (record { step = step; page = p }) → Stands es p w → has_read_any rs es ≡ true
+any_read : (rs : List ReadEntry) (es : List WriteEntry) (i step p w : ℕ) → slice_get rs i ≡ Some (record { step = step; page = p }) → OnList es p w → has_read_any rs es ≡ true
 any_read [] es i step p w h on = let z : ◌≡◌ {A = ℕ} 0 1 = cc in absurd (omega arith)
 any_read (r ∷ rs) es zero step p w h on =
     let named : ReadEntry = record { step = step; page = p } in
@@ -55,7 +55,7 @@ told_read (r ∷ rs) p zero step h =
     or_left (eqb r.page p) (has_read rs p) (eq-eqb r.page p (ap (λ x. x.page) (same_Some r (record { step = step; page = p }) h)))
 told_read (r ∷ rs) p (suc i) step h = or_right (eqb r.page p) (has_read rs p) (told_read rs p i step h)
 
-any_told : (rs : List ReadEntry) (es : List WriteEntry) → has_read_any rs es ≡ true → (p : ℕ) × ((i : ℕ) × (step : ℕ) × (slice_get rs i ≡ Some (record { step = step; page = p }))) × ((w : ℕ) × Stands es p w)
+any_told : (rs : List ReadEntry) (es : List WriteEntry) → has_read_any rs es ≡ true → (p : ℕ) × ((i : ℕ) × (step : ℕ) × (slice_get rs i ≡ Some (record { step = step; page = p }))) × ((w : ℕ) × OnList es p w)
 any_told [] es h = absurd (true≢false (sym h))
 any_told (r ∷ rs) es h =
     ⊎_elim
@@ -65,7 +65,7 @@ any_told (r ∷ rs) es h =
 
 module _ (lead : Stand) (script : Steps) (s : Stand) where
   abbrev BeforeRead : Type 0
-  BeforeRead = (st : Step) × (a : Register) × (p : ℕ) × (slice_get script s.step ≡ Some st) × Reads st s a p × IsOff s.own p × HasWritten lead p
+  BeforeRead = (st : Step) × (a : Register) × (p : ℕ) × (slice_get script s.step ≡ Some st) × Reads st s a p × NotOnList s.own p × HasWritten lead p
 
   before_told : (o : Option ℕ) → store_read (slice_get script s.step) s ≡ o → on_list lead.own o ≡ true → BeforeRead
   before_told None q h = absurd (true≢false (sym h))

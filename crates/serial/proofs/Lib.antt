@@ -7,6 +7,9 @@ pub mod Turns
 pub mod Commits
 pub mod Calls
 pub mod Booking
+pub mod PageLists
+pub mod OneStep
+pub mod WriteLaws
 pub mod Sound
 pub mod Furthest
 pub mod Relations
@@ -16,8 +19,5 @@ pub mod Refused
 pub mod Outcomes
 pub mod BothWays
 pub mod Histories
-pub mod PageLists
-pub mod OneStep
-pub mod WriteLaws
 pub mod Guesses
 pub mod Continued

@@ -15,7 +15,7 @@ use Rattle.script.specs.declared.Step.{Step}
 use Rattle.serial.specs.declared.ReadEntry.{ReadEntry}
 use Rattle.serial.specs.Machine.{Meaning, Stand, start, holds, written, reading, writing, setting, leaving, does_action, effect, with_register, recorded, with_write, Taken, moved, off_pages, take_read, take_effect, takes, page_read, page_written, unless_own, from_store, store_read, write_of}
 use Rattle.serial.specs.Alone.{try_step, next}
-use Rattle.serial.specs.OneStep.{IsOff, Once, HasFour, Reads, Writes, Sets, LeavesOut, RegisterTakes, ComesTo, StepsComeTo, StepsHaveOneOutcome, NextSo, NextInWords, Begins, StoreReadsInWords, WritesInWords}
+use Rattle.serial.specs.OneStep.{NotOnList, Once, HasFour, Reads, Writes, Sets, LeavesOut, RegisterTakes, ComesTo, StepsComeTo, StepsHaveOneOutcome, NextSo, NextInWords, Begins, StoreReadsInWords, WritesInWords}
 use Rattle.serial.proofs.Table.{none_is_some}
 use Rattle.serial.proofs.PageLists.{Found, Missing, looked, off_told, stands_told, write-takes, takes_one_way}
 
@@ -137,7 +137,7 @@ module _ (ar : Meaning) (pages : List ℕ) (st : Step) (s : Stand) where
   takes_read : (a : Register) (p : ℕ) (o : Option ℕ) → Reads st s a p → written s.own p ≡ o → takes ar pages st s ≡ take_read pages s a p o
   takes_read a p o h e = ap (take_effect pages s) (reads-effect ar st s a p h) ∙ ap (take_read pages s a p) e
 
-  takes_store : (a : Register) (p : ℕ) → Reads st s a p → IsOff s.own p → takes ar pages st s ≡ cond (ltb p (length pages)) (moved (with_register (recorded s p) a (get_or pages p 0))) (off_pages p)
+  takes_store : (a : Register) (p : ℕ) → Reads st s a p → NotOnList s.own p → takes ar pages st s ≡ cond (ltb p (length pages)) (moved (with_register (recorded s p) a (get_or pages p 0))) (off_pages p)
   takes_store a p h off = takes_read a p None h (off_told s.own p off).told
 
   takes_write : (p w : ℕ) → Writes st s p w → takes ar pages st s ≡ cond (ltb p (length pages)) (moved (with_write s p w)) (off_pages p)
@@ -269,7 +269,7 @@ start_begins = record { step = refl; four = refl; zeros = zeros; unread = refl; 
     zeros R3 = refl
 
 -- store reads
-unless-own : (own : List WriteEntry) (q p : ℕ) → unless_own q (written own q) ≡ Some p → (q ≡ p) × IsOff own q
+unless-own : (own : List WriteEntry) (q p : ℕ) → unless_own q (written own q) ≡ Some p → (q ≡ p) × NotOnList own q
 unless-own own q p h =
     ⊎_elim
     (λ (f : Found own q). none_is_some p (sym (ap (unless_own q) f.told) ∙ h))
@@ -278,11 +278,11 @@ unless-own own q p h =
 
 module _ (s : Stand) (p : ℕ) where
   abbrev StoreRead : Step → Type 0
-  StoreRead st = (a : Register) × Reads st s a p × IsOff s.own p
+  StoreRead st = (a : Register) × Reads st s a p × NotOnList s.own p
 
   read_told : (act : Action) (o : ℕ) → from_store s.own (page_read act o s) ≡ Some p → StoreRead (record { action = act; operand = o })
-  read_told (Read a) o h = let u = unless-own s.own o p h in (a, inl (refl, sym u.0), subst (IsOff s.own) u.0 u.1)
-  read_told (ReadIndexed a b) o h = let u = unless-own s.own ((o + holds s b) % 2 ^ 32) p h in (a, inr (b, refl, sym u.0), subst (IsOff s.own) u.0 u.1)
+  read_told (Read a) o h = let u = unless-own s.own o p h in (a, inl (refl, sym u.0), subst (NotOnList s.own) u.0 u.1)
+  read_told (ReadIndexed a b) o h = let u = unless-own s.own ((o + holds s b) % 2 ^ 32) p h in (a, inr (b, refl, sym u.0), subst (NotOnList s.own) u.0 u.1)
   read_told (Write a) o h = none_is_some p h
   read_told (WriteIndexed a b) o h = none_is_some p h
   read_told (Set a) o h = none_is_some p h
@@ -315,7 +315,7 @@ module _ (s : Stand) (p : ℕ) where
 pub store_reads_in_words : StoreReadsInWords
 store_reads_in_words next s p = (there next, λ h. ap (λ o. store_read o s) h.2 ∙ ap (from_store s.own) (reads_page s p h.0 h.1 h.3) ∙ ap (unless_own p) (off_told s.own p h.4).told)
   where
-    there : (next : Option Step) → store_read next s ≡ Some p → (st : Step) × (a : Register) × (next ≡ Some st) × Reads st s a p × IsOff s.own p
+    there : (next : Option Step) → store_read next s ≡ Some p → (st : Step) × (a : Register) × (next ≡ Some st) × Reads st s a p × NotOnList s.own p
     there None h = none_is_some p h
     there (Some st) h = let r = read_told s p st.action st.operand h in (st, r.0, refl, r.1, r.2)
 

@@ -1,12 +1,13 @@
 -- Pages on a list of writes: where they stand, with which word, and what a write and puts do. Assumes nothing.
-use Rattle.std.proofs.Common.{◌≡◌, ℕ, zero, suc, ◌<◌, Bool, true, false, cond, eqb, ◌≢◌, ◌⊎◌, List, [], ◌∷◌, ◌++◌, length, get_or, set, Some, None, Option, sym, refl, ap, ◌∙◌, subst, inl, inr, ⊎_elim, arith, length-set, get_or-set_same}
+use Rattle.std.proofs.Common.{◌≡◌, ℕ, zero, suc, ◌<◌, Bool, true, false, cond, eqb, ◌≢◌, ◌⊎◌, List, [], ◌∷◌, ◌++◌, length, get_or, set, Some, None, Option, sym, refl, ap, ◌∙◌, subst, inl, inr, ⊎_elim, arith, length-set, get_or-set_same, not, ◌&&◌}
 use Rattle.std.specs.List.{slice_get}
-use Rattle.std.proofs.lemmas.Bool.{cases_Bool, cases_eq, cond-true, cond-false, or_left, or_right, or_from, eqb-true, eqb-false, ne_eqb, both_ways}
+use Rattle.std.proofs.lemmas.Bool.{cases_Bool, cases_eq, cond-true, cond-false, or_left, or_right, or_from, eqb-true, eqb-false, ne_eqb, both_ways, and_parts, and_from, not-true, not_from_false, false_from_ne_true}
 use Rattle.pages.specs.Pages.{entry}
 use Rattle.pages.specs.declared.WriteEntry.{WriteEntry}
 use Rattle.serial.specs.Machine.{written, write, has_written}
 use Rattle.serial.specs.Alone.{put_all}
-use Rattle.serial.specs.OneStep.{Stands, IsOff, Once, ListTakes}
+use Rattle.serial.specs.Sound.{stands_once}
+use Rattle.serial.specs.OneStep.{OnList, NotOnList, Once, ListTakes}
 use Rattle.serial.specs.WriteLaws.{PutsInWords}
 use Rattle.serial.proofs.Table.{none_is_some}
 use Rattle.serial.proofs.Steps.{written_more}
@@ -15,22 +16,22 @@ use Rattle.serial.proofs.Runs.{length-put_all, put_all_other}
 -- a page is on a list, with the word that the list tells first, or off it
 pub record Found (own : List WriteEntry) (p : ℕ) : Type 0 where
   pub word : ℕ
-  pub stands : Stands own p word
+  pub stands : OnList own p word
   pub told : written own p ≡ Some word
   pub has : has_written own p ≡ true
 
 pub record Missing (own : List WriteEntry) (p : ℕ) : Type 0 where
-  pub off : IsOff own p
+  pub off : NotOnList own p
   pub told : written own p ≡ None
   pub has : has_written own p ≡ false
 
-pub off-tail : (e : WriteEntry) (es : List WriteEntry) (p : ℕ) → IsOff (e ∷ es) p → IsOff es p
+pub off-tail : (e : WriteEntry) (es : List WriteEntry) (p : ℕ) → NotOnList (e ∷ es) p → NotOnList es p
 off-tail e es p off w h = off w (suc h.0, h.1)
 
-pub off-head : (e : WriteEntry) (es : List WriteEntry) (p : ℕ) → IsOff (e ∷ es) p → e.page ≢ p
+pub off-head : (e : WriteEntry) (es : List WriteEntry) (p : ℕ) → NotOnList (e ∷ es) p → e.page ≢ p
 off-head e es p off same = off e.word (0, ap (λ q. Some (entry q e.word)) same)
 
-pub off-cons : (e : WriteEntry) (es : List WriteEntry) (p : ℕ) → e.page ≢ p → IsOff es p → IsOff (e ∷ es) p
+pub off-cons : (e : WriteEntry) (es : List WriteEntry) (p : ℕ) → e.page ≢ p → NotOnList es p → NotOnList (e ∷ es) p
 off-cons e es p ne off w h = at h.0 h.1
   where
     at : (i : ℕ) → slice_get (e ∷ es) i ≡ Some (entry p w) → ⊥
@@ -56,20 +57,20 @@ looked (e ∷ es) p =
     (looked es p))
     (cases_Bool (eqb e.page p))
 
-pub off_told : (own : List WriteEntry) (p : ℕ) → IsOff own p → Missing own p
+pub off_told : (own : List WriteEntry) (p : ℕ) → NotOnList own p → Missing own p
 off_told own p off = ⊎_elim (λ (f : Found own p). absurd (off f.word f.stands)) (λ (m : Missing own p). m) (looked own p)
 
-pub stands_found : (own : List WriteEntry) (p w : ℕ) → Stands own p w → Found own p
+pub stands_found : (own : List WriteEntry) (p w : ℕ) → OnList own p w → Found own p
 stands_found own p w h = ⊎_elim (λ (f : Found own p). f) (λ (m : Missing own p). absurd (m.off w h)) (looked own p)
 
 pub has_found : (own : List WriteEntry) (p : ℕ) → has_written own p ≡ true → Found own p
 has_found own p h = ⊎_elim (λ (f : Found own p). f) (λ (m : Missing own p). absurd (both_ways (has_written own p) m.has h)) (looked own p)
 
-pub has_off : (own : List WriteEntry) (p : ℕ) → has_written own p ≡ false → IsOff own p
+pub has_off : (own : List WriteEntry) (p : ℕ) → has_written own p ≡ false → NotOnList own p
 has_off own p h = ⊎_elim (λ (f : Found own p). absurd (both_ways (has_written own p) h f.has)) (λ (m : Missing own p). m.off) (looked own p)
 
 -- a page that stands once has one word
-pub one_word : (own : List WriteEntry) → Once own → (p v w : ℕ) → Stands own p v → Stands own p w → v ≡ w
+pub one_word : (own : List WriteEntry) → Once own → (p v w : ℕ) → OnList own p v → OnList own p w → v ≡ w
 one_word own once p v w a b =
     ⊎_elim
     (λ (q : a.0 ≡ b.0).
@@ -79,13 +80,13 @@ one_word own once p v w a b =
     (λ (q : a.0 ≡ b.0 → ⊥). absurd (once a.0 b.0 (entry p v) (entry p w) q a.1 b.1 refl))
     (cases_eq a.0 b.0)
 
-pub stands_told : (own : List WriteEntry) → Once own → (p w : ℕ) → Stands own p w → written own p ≡ Some w
+pub stands_told : (own : List WriteEntry) → Once own → (p w : ℕ) → OnList own p w → written own p ≡ Some w
 stands_told own once p w h = let f = stands_found own p w h in f.told ∙ ap Some (one_word own once p f.word w f.stands h)
 
-pub told_stands : (own : List WriteEntry) (p w : ℕ) → written own p ≡ Some w → Stands own p w
+pub told_stands : (own : List WriteEntry) (p w : ℕ) → written own p ≡ Some w → OnList own p w
 told_stands own p w h =
     ⊎_elim
-    (λ (f : Found own p). let e : f.word ≡ w = let z : Some f.word ≡ Some w = sym f.told ∙ h in cc in subst (Stands own p) e f.stands)
+    (λ (f : Found own p). let e : f.word ≡ w = let z : Some f.word ≡ Some w = sym f.told ∙ h in cc in subst (OnList own p) e f.stands)
     (λ (m : Missing own p). none_is_some w (sym m.told ∙ h))
     (looked own p)
 
@@ -93,10 +94,10 @@ told_stands own p w h =
 pub once-tail : (e : WriteEntry) (es : List WriteEntry) → Once (e ∷ es) → Once es
 once-tail e es once i j x y ne a b = once (suc i) (suc j) x y (λ q. ne (omega arith)) a b
 
-pub once-off : (e : WriteEntry) (es : List WriteEntry) → Once (e ∷ es) → IsOff es e.page
+pub once-off : (e : WriteEntry) (es : List WriteEntry) → Once (e ∷ es) → NotOnList es e.page
 once-off e es once w h = once 0 (suc h.0) e (entry e.page w) (λ q. omega arith) refl h.1 refl
 
-pub once-cons : (e : WriteEntry) (es : List WriteEntry) → Once es → IsOff es e.page → Once (e ∷ es)
+pub once-cons : (e : WriteEntry) (es : List WriteEntry) → Once es → NotOnList es e.page → Once (e ∷ es)
 once-cons e es once off zero zero x y ne a b = absurd (ne refl)
 once-cons e es once off zero (suc j) x y ne a b = λ q.
     let same : e ≡ x = cc in
@@ -107,7 +108,7 @@ once-cons e es once off (suc i) zero x y ne a b = λ q.
 once-cons e es once off (suc i) (suc j) x y ne a b = once i j x y (λ q. ne (ap suc q)) a b
 
 -- a write of another page leaves a page off the list
-off_write : (own : List WriteEntry) (p w q : ℕ) → IsOff own q → p ≢ q → IsOff (write own p w) q
+off_write : (own : List WriteEntry) (p w q : ℕ) → NotOnList own q → p ≢ q → NotOnList (write own p w) q
 off_write own p w q off ne =
     has_off (write own p w) q (written_more own p w q ∙ or_from (has_written own q) (eqb p q) (off_told own q off).has (ne_eqb p q ne))
 
@@ -117,7 +118,7 @@ once_write (e ∷ es) p w once =
     ⊎_elim
     (λ (h : eqb e.page p ≡ true).
     subst Once (sym (cond-true (eqb e.page p) (entry p w ∷ es) (e ∷ write es p w) h))
-    (once-cons (entry p w) es (once-tail e es once) (subst (IsOff es) (eqb-true e.page p h) (once-off e es once))))
+    (once-cons (entry p w) es (once-tail e es once) (subst (NotOnList es) (eqb-true e.page p h) (once-off e es once))))
     (λ (h : eqb e.page p ≡ false).
     subst Once (sym (cond-false (eqb e.page p) (entry p w ∷ es) (e ∷ write es p w) h))
     (once-cons e (write es p w) (once_write es p w (once-tail e es once)) (off_write es p w e.page (once-off e es once) (λ q. eqb-false e.page p h (sym q)))))
@@ -180,7 +181,7 @@ module _ (p w : ℕ) where
       subst (λ xs. InPlace (e ∷ es) xs i) (sym (cond-false (eqb e.page p) (entry p w ∷ es) (e ∷ write es p w) q)) (later_place e es (write es p w) i before (eqb-false e.page p q) h (λ k z. write-in_place es (once-tail e es once) k before z)))
       (cases_Bool (eqb e.page p))
 
-  write-added : (own : List WriteEntry) → IsOff own p → write own p w ≡ own ++ (entry p w ∷ [])
+  write-added : (own : List WriteEntry) → NotOnList own p → write own p w ≡ own ++ (entry p w ∷ [])
   write-added [] off = refl
   write-added (e ∷ es) off =
       cond-false (eqb e.page p) (entry p w ∷ es) (e ∷ write es p w) (ne_eqb e.page p (off-head e es p off)) ∙ ap (λ xs. e ∷ xs) (write-added es (off-tail e es p off))
@@ -216,7 +217,7 @@ put_all-listed [] pages once p w i h l = none_is_some (entry p w) h
 put_all-listed (e ∷ es) pages once p w zero h l =
     let same : e ≡ entry p w = cc in
     let page : e.page ≡ p = ap (λ x. x.page) same in
-    let off : IsOff es p = subst (IsOff es) page (once-off e es once) in
+    let off : NotOnList es p = subst (NotOnList es) page (once-off e es once) in
     put_all_other es (set pages e.page e.word) p (off_told es p off).has
     ∙ ap (λ x. get_or (set pages x.page x.word) p 0) same
     ∙ get_or-set_same pages p w 0 l
@@ -229,3 +230,27 @@ puts_in_words own pages once = record {
   listed = λ p w h l. put_all-listed own pages once p w h.0 h.1 l;
   others = λ p off. put_all_other own pages p (off_told own p off).has;
 }
+
+-- the test of a page that stands on a list once
+pub once_told : (own : List WriteEntry) → stands_once own ≡ true → Once own
+once_told [] h = λ i j x y ne a b. none_is_some x a
+once_told (w ∷ own) h = by (once_told own (and_parts (not (has_written own w.page)) (stands_once own) h).1)
+  where
+    -- the first page is not on the rest
+    apart : (k : ℕ) (z : WriteEntry) → slice_get own k ≡ Some z → w.page ≢ z.page
+    apart k z q same = both_ways (has_written own w.page) (not-true (has_written own w.page) (and_parts (not (has_written own w.page)) (stands_once own) h).0) (ap (has_written own) same ∙ (stands_found own z.page z.word (k, q)).has)
+
+    by : Once own → Once (w ∷ own)
+    by rest zero zero x y ne a b = absurd (ne refl)
+    by rest zero (suc j) x y ne a b = let same : w ≡ x = cc in λ q. apart j y b (ap (λ z. z.page) same ∙ q)
+    by rest (suc i) zero x y ne a b = let same : w ≡ y = cc in λ q. apart i x a (ap (λ z. z.page) same ∙ sym q)
+    by rest (suc i) (suc j) x y ne a b = rest i j x y (λ q. ne (ap suc q)) a b
+
+pub told_once : (own : List WriteEntry) → Once own → stands_once own ≡ true
+told_once [] once = refl
+told_once (w ∷ own) once =
+    and_from (not (has_written own w.page)) (stands_once own)
+    (not_from_false (has_written own w.page) (false_from_ne_true (has_written own w.page) (λ h.
+    let f = has_found own w.page h in
+    once 0 (suc f.stands.0) w (entry w.page f.word) (λ (q : 0 ≡ suc f.stands.0). omega arith) refl f.stands.1 refl)))
+    (told_once own (λ i j x y ne a b. once (suc i) (suc j) x y (λ (q : suc i ≡ suc j). ne (omega arith)) a b))

@@ -3,7 +3,7 @@ use Rattle.std.proofs.Common.{◌≡◌, ℕ, zero, suc, ◌+◌, ◌<◌, ◌�
 use Rattle.std.specs.List.{slice_get}
 use Rattle.std.proofs.lemmas.List.{length-append}
 use Rattle.std.proofs.Math.ListN.{get_or-map}
-use Rattle.std.proofs.lemmas.Bool.{cases_Bool, cases_eq, cond-true, cond-false, cond_both, and_parts, and_from, leb-true, le-leb, eqb-true, eqb-false, not-true, true≢false}
+use Rattle.std.proofs.lemmas.Bool.{cases_Bool, cases_eq, cond-true, cond-false, cond_both, and_parts, and_from, leb-true, le-leb, eqb-true, eq-eqb, eqb-false, not-true, true≢false}
 use Rattle.pages.specs.Pages.{entry}
 use Rattle.pages.specs.declared.WriteEntry.{WriteEntry}
 use Rattle.script.specs.declared.Step.{Step}
@@ -18,10 +18,13 @@ use Rattle.serial.specs.Machine.{Meaning, Steps, Stand, start, has_read_any, wri
 use Rattle.serial.specs.Alone.{next}
 use Rattle.serial.specs.Laws.{Next}
 use Rattle.serial.specs.Rules.{Engine, State, Done, slots, fresh_engine, script_of, is_open, row, shadow, with_shadow, clean, furthest_of, any_shadow, count, has_room, account, read_conflict, account_read, account_reads, write_conflict, account_write, account_writes, before_step, after_step, lead_moves, shadow_moves, standing, in_range, first_open, allow_closed, begun, begin_with, turn_step, turn_standing, turn_shadow, turn_open, remaining, kept, committed, first_off, commit_puts, commit_open, abort_open, Call, set_allowance, begin, turn, commit, abort, does}
-use Rattle.serial.specs.Sound.{ends_within, script_fits, shadow_fits, SoundEngine}
+use Rattle.serial.specs.Sound.{ends_within, script_fits, stands_once, shadow_fits, SoundEngine}
+use Rattle.serial.specs.OneStep.{HasFour, Once, ShadowsStandSo}
 use Rattle.serial.proofs.Steps.{noted, off_moved}
 use Rattle.serial.proofs.Runs.{stepped, next-ends}
 use Rattle.serial.proofs.Table.{none_is_some, some_is, none_is, some_or_none, Sized, shadow-within, row_put, row_put_other, shadow_put, shadow_put_place, shadow_put_row, sized_put, nothing_at, count_set, count_add, kept_was, furthest_of_among}
+use Rattle.serial.proofs.PageLists.{once_told, told_once}
+use Rattle.serial.proofs.WriteLaws.{next-fits}
 use Rattle.serial.proofs.Kept.{count_room}
 use Rattle.serial.proofs.Turns.{open_within, open_kept, account-scripts}
 use Rattle.serial.proofs.Commits.{none_of, none_for, others_kept, lead_stays, lead_renewed, lead_none, committed-sized, committed-count, script-there, script_other, abort_is}
@@ -29,7 +32,7 @@ use Rattle.serial.proofs.Calls.{BegunSo, begun-so, fresh_good, none_open, count_
 
 -- a shadow that fits its script
 abbrev pub FitsScript : Steps → Stand → Type 0
-FitsScript sc s = (s.step ≤ length sc) × (length s.reads ≤ s.step) × (length s.own ≤ s.step)
+FitsScript sc s = (s.step ≤ length sc) × (length s.reads ≤ s.step) × (length s.own ≤ s.step) × HasFour s × Once s.own
 
 -- the same, field by field
 pub record Holds (e : Engine) : Type 0 where
@@ -72,17 +75,23 @@ script_tell (Some sc) h =
 
 shadow-told : (sc : Steps) (s : Stand) → shadow_fits (Some sc) (Some s) ≡ true → FitsScript sc s
 shadow-told sc s h =
-    let a = and_parts (leb s.step (length sc)) (leb (length s.reads) s.step && leb (length s.own) s.step) h in
-    let b = and_parts (leb (length s.reads) s.step) (leb (length s.own) s.step) a.1 in
-    (leb-true _ _ a.0, leb-true _ _ b.0, leb-true _ _ b.1)
+    let whole = eqb (length s.registers) 4 && stands_once s.own in
+    let a = and_parts (leb s.step (length sc)) (leb (length s.reads) s.step && (leb (length s.own) s.step && whole)) h in
+    let b = and_parts (leb (length s.reads) s.step) (leb (length s.own) s.step && whole) a.1 in
+    let c = and_parts (leb (length s.own) s.step) whole b.1 in
+    let d = and_parts (eqb (length s.registers) 4) (stands_once s.own) c.1 in
+    (leb-true _ _ a.0, leb-true _ _ b.0, leb-true _ _ c.0, eqb-true _ _ d.0, once_told s.own d.1)
 
 shadow_tell : (o : Option Steps) (x : Option Stand) → ((sc : Steps) (s : Stand) → o ≡ Some sc → x ≡ Some s → FitsScript sc s) → shadow_fits o x ≡ true
 shadow_tell None x h = refl
 shadow_tell (Some sc) None h = refl
 shadow_tell (Some sc) (Some s) h =
     let a = h sc s refl refl in
-    and_from (leb s.step (length sc)) (leb (length s.reads) s.step && leb (length s.own) s.step) (le-leb _ _ a.0)
-    (and_from (leb (length s.reads) s.step) (leb (length s.own) s.step) (le-leb _ _ a.1) (le-leb _ _ a.2))
+    let whole = eqb (length s.registers) 4 && stands_once s.own in
+    and_from (leb s.step (length sc)) (leb (length s.reads) s.step && (leb (length s.own) s.step && whole)) (le-leb _ _ a.0)
+    (and_from (leb (length s.reads) s.step) (leb (length s.own) s.step && whole) (le-leb _ _ a.1)
+    (and_from (leb (length s.own) s.step) whole (le-leb _ _ a.2)
+    (and_from (eqb (length s.registers) 4) (stands_once s.own) (eq-eqb _ _ a.3) (told_once s.own a.4))))
 
 pub ok_from : (e : Engine) → SoundEngine e → Holds e
 ok_from e h = record {
@@ -155,10 +164,11 @@ next_fits ar sc pages s t ends h f =
     let own = effect-own pages s (effect ar x.step s) t (x.move.frame pages refl (λ p e. refl)) in
     let few_reads = f.1 in
     let few_own = f.2 in
-    (next-ends ar sc pages s t ends h, omega arith, omega arith)
+    let kept = next-fits ar sc pages s t h f.3 f.4 in
+    (next-ends ar sc pages s t ends h, omega arith, omega arith, kept.0, kept.1)
 
 start_fits : (sc : Steps) → FitsScript sc start
-start_fits sc = (omega arith, omega arith, omega arith)
+start_fits sc = (omega arith, omega arith, omega arith, refl, λ i j x y ne a b. none_is_some x a)
 
 -- another shadow in a place of an open slot
 module _ (e : Engine) (o : Holds e) (v u : ℕ) (v_in : v < 8) (u_in : u < 8) (sc : Steps) (script : script_of e v ≡ Some sc) (u_open : is_open e u ≡ true) (s : Stand) (f : FitsScript sc s) (room : count (set (row e v) u (Some s)) ≤ e.allowance) where
@@ -511,3 +521,12 @@ fresh_holds =
 
 pub fresh-sound : SoundEngine fresh_engine
 fresh-sound = sound_from fresh_engine fresh_holds
+
+-- every shadow stands so that the words of a step fix it
+pub shadows_stand_so : ShadowsStandSo
+shadows_stand_so e t u s sound h =
+    let o = ok_from e sound in
+    ⊎_elim
+    (λ (q : is_open e t ≡ true). let sc = some_is (script_of e t) q in let f = o.shadows t u sc.0 s sc.1 h in (f.3, f.4))
+    (λ (q : is_open e t ≡ false). none_is_some s (sym (none_is (shadow e t u) (o.bare t u q)) ∙ h))
+    (cases_Bool (is_open e t))

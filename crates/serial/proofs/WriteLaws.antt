@@ -12,7 +12,7 @@ use Rattle.serial.specs.Machine.{Meaning, Steps, Stand, start, written, write, h
 use Rattle.serial.specs.Alone.{try_step}
 use Rattle.serial.specs.Laws.{Next, Leads, here, more}
 use Rattle.serial.specs.OneStep.{Once, HasFour, FourRegisters}
-use Rattle.serial.specs.WriteLaws.{WritesNext, Wrote, nothing, this, none_here, WritesTold, IsLast, StandsOnce, StaysWritten, LastWritten, InOrder, ReadsOwnWord}
+use Rattle.serial.specs.WriteLaws.{WritesNext, Wrote, no_step, a_write, no_write, WritesTold, IsLast, StandsOnce, StaysWritten, LastWritten, InOrder, ReadsOwnWord}
 use Rattle.serial.proofs.Table.{none_is_some, some_or_none}
 use Rattle.serial.proofs.Steps.{written_more, off_moved}
 use Rattle.serial.proofs.Runs.{stepped, reached_later}
@@ -99,7 +99,7 @@ module _ (ar : Meaning) (script : Steps) (pages : List ℕ) where
       by st at (leaves m k) = inr (unwritten s t st (leaving m) at h (leaves-effect ar st s m k) refl (λ q v z. let n : ◌≡◌ {A = ℕ} 0 1 = cc in omega arith))
 
   -- four registers and a list on which a page stands once
-  next-fits : (s t : Stand) → Next ar script pages s t → HasFour s → Once s.own → HasFour t × Once t.own
+  pub next-fits : (s t : Stand) → Next ar script pages s t → HasFour s → Once s.own → HasFour t × Once t.own
   next-fits s t h four once =
       let x = stepped ar script pages s t h in
       let l = left pages s t (effect ar x.step s) (taken_at s t x.step x.at h) in (
@@ -119,18 +119,18 @@ module _ (ar : Meaning) (script : Steps) (pages : List ℕ) where
 
   -- every run has its writes
   pub wrote : {s t : Stand} → Leads ar script pages s t → (ws : List WriteEntry) × Wrote ar script pages s t ws
-  wrote here = ([], nothing)
+  wrote here = ([], no_step)
   wrote {s} {t} (more {t = m} h l) =
       let rest = wrote l in
       ⊎_elim
-      (λ (wr : Written s m). (entry wr.page wr.word ∷ rest.0, this wr.page wr.word h wr.next rest.1))
-      (λ (un : Unwritten s m). (rest.0, none_here h un.none rest.1))
+      (λ (wr : Written s m). (entry wr.page wr.word ∷ rest.0, a_write wr.page wr.word h wr.next rest.1))
+      (λ (un : Unwritten s m). (rest.0, no_write h un.none rest.1))
       (writes_or_not s m h)
 
   pub wrote-leads : {s t : Stand} {ws : List WriteEntry} → Wrote ar script pages s t ws → Leads ar script pages s t
-  wrote-leads nothing = here
-  wrote-leads (this p w h wn rest) = more h (wrote-leads rest)
-  wrote-leads (none_here h none rest) = more h (wrote-leads rest)
+  wrote-leads no_step = here
+  wrote-leads (a_write p w h wn rest) = more h (wrote-leads rest)
+  wrote-leads (no_write h none rest) = more h (wrote-leads rest)
 
 -- the last word for a page among writes, where there is one
 abbrev or_else : Option ℕ → Option ℕ → Option ℕ
@@ -156,10 +156,10 @@ written_all own [] = own
 written_all own (e ∷ ws) = written_all (write own e.page e.word) ws
 
 wrote-own : (ar : Meaning) (script : Steps) (pages : List ℕ) {s t : Stand} {ws : List WriteEntry} → Wrote ar script pages s t ws → t.own ≡ written_all s.own ws
-wrote-own ar script pages nothing = refl
-wrote-own ar script pages {s} (this {t = m} {ws = ws} p w h wn rest) =
+wrote-own ar script pages no_step = refl
+wrote-own ar script pages {s} (a_write {t = m} {ws = ws} p w h wn rest) =
     wrote-own ar script pages rest ∙ ap (λ own. written_all own ws) (write-next ar script pages s m p w h wn)
-wrote-own ar script pages {s} (none_here {t = m} {ws = ws} h none rest) =
+wrote-own ar script pages {s} (no_write {t = m} {ws = ws} h none rest) =
     wrote-own ar script pages rest
     ∙ ap (λ own. written_all own ws) (⊎_elim
     (λ (wr : Written ar script pages s m). absurd (none wr.page wr.word wr.next))

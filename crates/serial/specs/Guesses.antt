@@ -8,7 +8,7 @@ use Rattle.serial.specs.declared.fault.Accepted.TheVariants.{Committed}
 use Rattle.serial.specs.Machine.{Meaning, Steps, Stand, has_read, has_written, has_read_any}
 use Rattle.serial.specs.Alone.{there, alone, before_read_of}
 use Rattle.serial.specs.Rules.{Row, Engine, State, fresh, script_of, shadow, clean, count, Call, commit, does, after}
-use Rattle.serial.specs.OneStep.{Stands, IsOff, Reads}
+use Rattle.serial.specs.OneStep.{OnList, NotOnList, Reads}
 
 -- a recorded read names the page
 abbrev pub HasRead : Stand → ℕ → Type 0
@@ -16,7 +16,7 @@ HasRead s p = (i : ℕ) × (step : ℕ) × (slice_get s.reads i ≡ Some (record
 
 -- the page stands on the own list
 abbrev pub HasWritten : Stand → ℕ → Type 0
-HasWritten s p = (w : ℕ) × Stands s.own p w
+HasWritten s p = (w : ℕ) × OnList s.own p w
 
 -- t's shadow for u guesses that u commits first
 pub record Guesses (e : Engine) : Type 0 where
@@ -44,9 +44,9 @@ pub record TestsInWords : Type 0 where
       → (clean e u s ≡ true) ↔ ((p : ℕ) → HasRead s p → HasWritten lead p → ⊥)
   pub counted : (shadows : Row) → count shadows ≡ length (filter (λ s. is_some s) shadows)
   pub before_read : (lead : Stand) (script : Steps) (s : Stand) → (before_read_of lead.own script s ≡ true)
-      ↔ ((st : Step) × (a : Register) × (p : ℕ) × (slice_get script s.step ≡ Some st) × Reads st s a p × IsOff s.own p × HasWritten lead p)
+      ↔ ((st : Step) × (a : Register) × (p : ℕ) × (slice_get script s.step ≡ Some st) × Reads st s a p × NotOnList s.own p × HasWritten lead p)
 
--- a commit of t puts the list: another open slot v has a leading shadow that has read one of its pages just if v's script,
+-- a commit of t puts the list: another open slot v has a leading shadow that has read one of its pages exactly if v's script,
 -- run alone over the pages before the commit to that shadow's step, makes a store read of one; `first` is where that run
 -- stands before its first such read
 abbrev pub SpoilsExactly : Meaning → State → ℕ → List WriteEntry → Type 0

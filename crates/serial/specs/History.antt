@@ -5,7 +5,7 @@ use Rattle.serial.specs.Machine.{Meaning}
 use Rattle.serial.specs.Rules.{State, fresh, Call, after, answers}
 use Rattle.serial.specs.Book.{Booked}
 
--- the history of a state: it is what these calls make of a fresh engine over these first pages, these are the answers that
+-- a history of a state: it is what these calls make of a fresh engine over these first pages, these are the answers that
 -- they were given, and they book serially
 pub record History (ar : Meaning) (pages : List ℕ) (calls : List Call) (told : List Answer) (s : State) : Type 0 where
   pub state : after ar calls (fresh pages) ≡ s
@@ -18,8 +18,8 @@ pub record HasHistory (ar : Meaning) (pages : List ℕ) (s : State) : Type 0 whe
   pub told : List Answer
   pub history : History ar pages calls told s
 
--- a state that no call has been made on yet: its first pages are its own
-pub record Started (ar : Meaning) (s : State) : Type 0 where
+-- a state that has the history of no calls: it is as fresh, over its own pages
+pub record AsFresh (ar : Meaning) (s : State) : Type 0 where
   pub none_yet : History ar s.pages [] [] s
   pub has : HasHistory ar s.pages s
 

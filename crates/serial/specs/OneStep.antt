@@ -1,5 +1,5 @@
--- What one step comes to, in words: which page it reads or writes, what is recorded, and what stays. The words stand for
--- themselves; only the laws at the end name definitions that compute a step. Assumes nothing.
+-- What one step comes to, in words: which page it reads or writes, what is recorded, and what stays. These definitions use
+-- none that computes a step; only the laws at the end name those. Assumes nothing.
 use Rattle.std.specs.Prelude.{◌≡◌, ℕ, ◌+◌, ◌%◌, ◌^◌, ◌<◌, ◌≤◌, ◌≢◌, ◌⊎◌, ◌↔◌, List, [], ◌∷◌, ◌++◌, length, Some, None, Option, slice_index}
 use Rattle.std.specs.List.{slice_get}
 use Rattle.arithmetic.specs.declared.Operation.{Operation}
@@ -11,14 +11,16 @@ use Rattle.script.specs.declared.Step.{Step}
 use Rattle.serial.specs.Machine.{Meaning, Steps, Stand, start, holds, Taken, moved, off_pages, takes, store_read, write_of}
 use Rattle.serial.specs.Alone.{next}
 use Rattle.serial.specs.Laws.{Leads}
+use Rattle.serial.specs.Rules.{Engine, shadow}
+use Rattle.serial.specs.Sound.{SoundEngine}
 
 -- an entry of the list names the page, with this word
-abbrev pub Stands : List WriteEntry → ℕ → ℕ → Type 0
-Stands own p w = (i : ℕ) × (slice_get own i ≡ Some (entry p w))
+abbrev pub OnList : List WriteEntry → ℕ → ℕ → Type 0
+OnList own p w = (i : ℕ) × (slice_get own i ≡ Some (entry p w))
 
 -- no entry of the list names the page
-abbrev pub IsOff : List WriteEntry → ℕ → Type 0
-IsOff own p = (w : ℕ) → Stands own p w → ⊥
+abbrev pub NotOnList : List WriteEntry → ℕ → Type 0
+NotOnList own p = (w : ℕ) → OnList own p w → ⊥
 
 -- a page stands on the list once: entries at two places name two pages
 abbrev pub Once : List WriteEntry → Type 0
@@ -66,19 +68,19 @@ pub record RegisterTakes (s : Stand) (a : Register) (w : ℕ) (t : Stand) : Type
 pub record ListTakes (own : List WriteEntry) (p w : ℕ) (own' : List WriteEntry) : Type 0 where
   pub in_place : (i before : ℕ) → slice_get own i ≡ Some (entry p before)
       → (slice_get own' i ≡ Some (entry p w)) × ((j : ℕ) → j ≢ i → slice_get own' j ≡ slice_get own j)
-  pub added : IsOff own p → own' ≡ own ++ (entry p w ∷ [])
+  pub added : NotOnList own p → own' ≡ own ++ (entry p w ∷ [])
 
 -- what a step comes to that is taken at s over the pages: each field speaks of one kind of step, and says all of it
 pub record ComesTo (ar : Meaning) (pages : List ℕ) (st : Step) (s : Stand) (d : Taken) : Type 0 where
   -- a read of a page on the own list takes the word there, and is not recorded
-  pub own_read : (a : Register) (p w : ℕ) → Reads st s a p → Stands s.own p w
+  pub own_read : (a : Register) (p w : ℕ) → Reads st s a p → OnList s.own p w
       → (t : Stand) × (d ≡ moved t) × (t.step ≡ s.step + 1) × RegisterTakes s a w t × (t.reads ≡ s.reads) × (t.own ≡ s.own)
   -- a read of any other page of the store takes its word there, and is recorded last, with its step and its page
-  pub read : (a : Register) (p : ℕ) → Reads st s a p → IsOff s.own p → p < length pages
+  pub read : (a : Register) (p : ℕ) → Reads st s a p → NotOnList s.own p → p < length pages
       → (t : Stand) × (d ≡ moved t) × (t.step ≡ s.step + 1) × RegisterTakes s a (slice_index pages p) t
       × (t.reads ≡ s.reads ++ (record { step = s.step; page = p } ∷ [])) × (t.own ≡ s.own)
   -- a page that is neither on the own list nor in the store is missing, and then nothing has moved
-  pub none_to_read : (a : Register) (p : ℕ) → Reads st s a p → IsOff s.own p → length pages ≤ p → d ≡ off_pages p
+  pub none_to_read : (a : Register) (p : ℕ) → Reads st s a p → NotOnList s.own p → length pages ≤ p → d ≡ off_pages p
   -- a write of a page of the store goes to the own list
   pub written : (p w : ℕ) → Writes st s p w → p < length pages
       → (t : Stand) × (d ≡ moved t) × (t.step ≡ s.step + 1) × (t.registers ≡ s.registers) × (t.reads ≡ s.reads) × ListTakes s.own p w t.own
@@ -127,11 +129,16 @@ abbrev pub FourRegisters : Type 0
 FourRegisters =
     (ar : Meaning) (script : Steps) (pages : List ℕ) (s : Stand) → Leads ar script pages start s → HasFour s
 
+-- and every shadow in every engine, whatever store it was called with, stands so that these words fix its next step: it has
+-- four registers, and a page stands on its own list once
+abbrev pub ShadowsStandSo : Type 0
+ShadowsStandSo = (e : Engine) (t u : ℕ) (s : Stand) → SoundEngine e → shadow e t u ≡ Some s → HasFour s × Once s.own
+
 -- the next step, where there is one, is a store read of the page that it reads, unless that page is on the own list
 abbrev pub StoreReadsInWords : Type 0
 StoreReadsInWords =
     (next : Option Step) (s : Stand) (p : ℕ)
-    → (store_read next s ≡ Some p) ↔ ((st : Step) × (a : Register) × (next ≡ Some st) × Reads st s a p × IsOff s.own p)
+    → (store_read next s ≡ Some p) ↔ ((st : Step) × (a : Register) × (next ≡ Some st) × Reads st s a p × NotOnList s.own p)
 
 -- and it is a write of the page that it writes
 abbrev pub WritesInWords : Type 0

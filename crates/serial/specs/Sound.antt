@@ -1,7 +1,8 @@
 -- What holds in every engine, whatever store it was called with. Assumes nothing.
-use Rattle.std.specs.Prelude.{◌≡◌, ℕ, suc, ◌+◌, ◌<◌, ◌≤◌, Bool, true, false, ◌&&◌, [], ◌∷◌, length, is_some, Some, None, Option, nat_le}
+use Rattle.std.specs.Prelude.{◌≡◌, ℕ, suc, ◌+◌, ◌<◌, ◌≤◌, Bool, true, false, not, ◌&&◌, ◌==◌, List, [], ◌∷◌, length, is_some, Some, None, Option, nat_le}
+use Rattle.pages.specs.declared.WriteEntry.{WriteEntry}
 use Rattle.script.specs.Laws.{leaves_out}
-use Rattle.serial.specs.Machine.{Meaning, Steps, Stand}
+use Rattle.serial.specs.Machine.{Meaning, Steps, Stand, has_written}
 use Rattle.serial.specs.Rules.{Engine, State, fresh_engine, Call, does, script_of, is_open, row, shadow, count}
 
 -- eight scripts, and eight rows of eight places
@@ -40,12 +41,19 @@ script_fits (Some script) = nat_le (length script) 16 && ends_within (length scr
 abbrev pub ScriptsFit : Engine → Type 0
 ScriptsFit e = (t : ℕ) → script_fits (script_of e t) ≡ true
 
--- a shadow is not past its script's end, and has at most one read and one page on its list for each step behind it
+-- a page stands on the list once
+abbrev pub stands_once : List WriteEntry → Bool
+stands_once [] = true
+stands_once (w ∷ list) = not (has_written list w.page) && stands_once list
+
+-- a shadow is not past its script's end, has at most one read and one page on its list for each step behind it, and has four
+-- registers; and a page stands on its list once
 abbrev pub shadow_fits : Option Steps → Option Stand → Bool
 shadow_fits None s = true
 shadow_fits (Some script) None = true
 shadow_fits (Some script) (Some s) =
-    nat_le s.step (length script) && (nat_le (length s.reads) s.step && nat_le (length s.own) s.step)
+    nat_le s.step (length script) && (nat_le (length s.reads) s.step && (nat_le (length s.own) s.step
+    && (length s.registers == 4 && stands_once s.own)))
 
 abbrev pub ShadowsFit : Engine → Type 0
 ShadowsFit e = (t u : ℕ) → shadow_fits (script_of e t) (shadow e t u) ≡ true

@@ -8,7 +8,7 @@ use Rattle.script.specs.declared.Step.{Step}
 use Rattle.serial.specs.Machine.{Meaning, Steps, Stand, start, holds}
 use Rattle.serial.specs.Alone.{put_all}
 use Rattle.serial.specs.Laws.{Next, Leads}
-use Rattle.serial.specs.OneStep.{Stands, IsOff, Once, Reads, Writes}
+use Rattle.serial.specs.OneStep.{OnList, NotOnList, Once, Reads, Writes}
 
 -- the next step at s writes w to page p
 abbrev pub WritesNext : Steps → Stand → ℕ → ℕ → Type 0
@@ -17,13 +17,13 @@ WritesNext script s p w = (st : Step) × (slice_get script s.step ≡ Some st) �
 module _ (ar : Meaning) (script : Steps) (pages : List ℕ) where
   -- t is reached from s, and these are the pages and words that the steps on the way have written, in order of time
   pub data Wrote : Stand → Stand → List WriteEntry → Type 0 where
-    nothing : {s : Stand} → Wrote s s []
-    this : {s t u : Stand} {ws : List WriteEntry} (p w : ℕ) → Next ar script pages s t → WritesNext script s p w
+    no_step : {s : Stand} → Wrote s s []
+    a_write : {s t u : Stand} {ws : List WriteEntry} (p w : ℕ) → Next ar script pages s t → WritesNext script s p w
         → Wrote t u ws → Wrote s u (entry p w ∷ ws)
-    none_here : {s t u : Stand} {ws : List WriteEntry} → Next ar script pages s t → ((p w : ℕ) → WritesNext script s p w → ⊥)
+    no_write : {s t u : Stand} {ws : List WriteEntry} → Next ar script pages s t → ((p w : ℕ) → WritesNext script s p w → ⊥)
         → Wrote t u ws → Wrote s u ws
 
--- every run has its writes, and nothing else has
+-- t is reached from s exactly if there is a list of the writes on the way
 abbrev pub WritesTold : Type 0
 WritesTold =
     (ar : Meaning) (script : Steps) (pages : List ℕ) (s t : Stand)
@@ -45,13 +45,13 @@ abbrev pub StaysWritten : Type 0
 StaysWritten =
     (ar : Meaning) (script : Steps) (pages : List ℕ) (s t : Stand) (p w : ℕ)
     → Leads ar script pages start s → Leads ar script pages start t → s.step ≤ t.step
-    → Stands s.own p w → (later : ℕ) × Stands t.own p later
+    → OnList s.own p w → (later : ℕ) × OnList t.own p later
 
--- just the pages that the run has written are on the list, each with the word that was written last
+-- exactly the pages that the run has written are on the list, each with the word that was written last
 abbrev pub LastWritten : Type 0
 LastWritten =
     (ar : Meaning) (script : Steps) (pages : List ℕ) (s : Stand) (ws : List WriteEntry) (p w : ℕ)
-    → Wrote ar script pages start s ws → Stands s.own p w ↔ IsLast ws p w
+    → Wrote ar script pages start s ws → OnList s.own p w ↔ IsLast ws p w
 
 -- and the pages stand in order of first write: each write of a page on the list came after a write of every page before it
 -- there
@@ -67,15 +67,15 @@ InOrder =
 abbrev pub ReadsOwnWord : Type 0
 ReadsOwnWord =
     (ar : Meaning) (script : Steps) (pages : List ℕ) (s : Stand) (st : Step) (a : Register) (p w : ℕ)
-    → Leads ar script pages start s → slice_get script s.step ≡ Some st → Reads st s a p → Stands s.own p w
+    → Leads ar script pages start s → slice_get script s.step ≡ Some st → Reads st s a p → OnList s.own p w
     → (t : Stand) × Next ar script pages s t × (holds t a ≡ w) × (t.reads ≡ s.reads)
 
--- after the puts of a list on which a page stands once, each page of it that there is has its word, every other is as it
+-- after the puts of a list on which a page stands once, each listed page below the size has its word, every other is as it
 -- was, and there are as many pages as before
 pub record PutsLeave (own : List WriteEntry) (pages : List ℕ) (pages' : List ℕ) : Type 0 where
   pub size : length pages' ≡ length pages
-  pub listed : (p w : ℕ) → Stands own p w → p < length pages → slice_index pages' p ≡ w
-  pub others : (p : ℕ) → IsOff own p → slice_index pages' p ≡ slice_index pages p
+  pub listed : (p w : ℕ) → OnList own p w → p < length pages → slice_index pages' p ≡ w
+  pub others : (p : ℕ) → NotOnList own p → slice_index pages' p ≡ slice_index pages p
 
 abbrev pub PutsInWords : Type 0
 PutsInWords = (own : List WriteEntry) (pages : List ℕ) → Once own → PutsLeave own pages (put_all own pages)

@@ -7,7 +7,7 @@ ghost use Rattle.serial.specs.Book.{EveryListBooked};
 ghost use Rattle.serial.specs.Guesses.{ShadowsGuess, TestsInWords, SpoiledByReads};
 ghost use Rattle.serial.specs.Laws.{StepsRise, RunsDetermined, ReadsGrow, UnreadReached, StandFound};
 ghost use Rattle.serial.specs.Machine.{start};
-ghost use Rattle.serial.specs.OneStep.{StepsComeTo, StepsHaveOneOutcome, NextInWords, Begins, FourRegisters, StoreReadsInWords, WritesInWords};
+ghost use Rattle.serial.specs.OneStep.{StepsComeTo, StepsHaveOneOutcome, NextInWords, Begins, FourRegisters, ShadowsStandSo, StoreReadsInWords, WritesInWords};
 ghost use Rattle.serial.specs.Outcome.{OneOutcome, OneRun, DeclinedExactly, AcceptedExactly, StandInWords, ReadEntryInWords};
 ghost use Rattle.serial.specs.Refused.{FaultsTold};
 ghost use Rattle.serial.specs.Rules.{set_allowance, begin, turn, commit, abort};
@@ -73,6 +73,7 @@ pub fn steps_in_words()
     ensures next { NextInWords }
     ensures begin { Begins start }
     ensures four { FourRegisters }
+    ensures engines { ShadowsStandSo }
     ensures reads { StoreReadsInWords }
     ensures writes { WritesInWords }
 {}

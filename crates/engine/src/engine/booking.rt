@@ -4,7 +4,7 @@ ghost use Rattle.serial.specs.Rules.{does, list_put};
 ghost use Rattle.serial.specs.History.{Continued};
 ghost use Rattle.pages.specs.Pages.{Chain};
 ghost use Rattle.engine.specs.Table.{engine_of};
-ghost use Rattle.engine.specs.Calls.{state_of};
+ghost use Rattle.engine.specs.Calls.{state_of, OnStill};
 ghost use Rattle.engine.specs.Booking.{call_of, Carried};
 
 use super::Engine;
@@ -38,6 +38,7 @@ impl Engine {
         ensures puts { Chain S.Store.wrote store.old (list_put (engine_of self.old.table) (call_of call.now) result) store.new }
         ensures declined { OnErr result (self.new.table ≡ self.old.table) }
         ensures store { OnErr result (store.new ≡ store.old) }
+        ensures no_step { OnStill result (self.new.table ≡ self.old.table) }
     {
         match call {
             Call::SetAllowance { allowance } => {

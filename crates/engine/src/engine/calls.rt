@@ -6,7 +6,7 @@ ghost use Rattle.serial.specs.History.{Continued};
 ghost use Rattle.engine.specs.Table.{engine_of};
 ghost use Rattle.engine.specs.Alone.{Inside};
 ghost use Rattle.engine.specs.Calls.{state_of, answers_by, committing, PutsList, OnNoStep};
-ghost use Rattle.engine.specs.History.{StartedOverAny, ContinuedByAny, ContinuedOverAny};
+ghost use Rattle.engine.specs.History.{AsFreshOverAny, ContinuedByAny, ContinuedOverAny};
 
 use super::Engine;
 use crate::alone::put_all;
@@ -31,10 +31,10 @@ fn first_missing(own: &[WriteEntry], size: u32) -> Option<u32>
 // That a refusal leaves the engine as it was is a clause of each call, where its reader looks for it.
 impl Engine {
     // A fresh engine has allowance 2 and all slots closed.
-    #[tactic(auto, using(crate::proofs::Continues::started_any))]
+    #[tactic(auto, using(crate::proofs::Continues::as_fresh_any))]
     pub fn new() -> Engine
         ensures rule { engine_of result.table ≡ fresh_engine }
-        ensures history { StartedOverAny result }
+        ensures history { AsFreshOverAny result }
     {
         Engine {
             table: Table::new(),

@@ -10,6 +10,7 @@ use Rattle.engine.specs.View.{stand_of}
 use Rattle.engine.specs.Table.{engine_of}
 use Rattle.engine.specs.Calls.{state_of}
 use Rattle.engine.proofs.Kept.{kept_by, idle}
+use Rattle.engine.proofs.Continues.{by_any}
 use Rattle.engine.proofs.engine.Engine.commit.Goals as goal
 
 pub shadow_at-lead-requires : goal.shadow_at-lead-requires
@@ -33,3 +34,9 @@ invariant_of-self g c =
     kept_by idle (commit t) c.args.self.now pages (put_all lead.own pages) c.commit_slot.new.self (committed e t lead.own) (Ok (Committed (holds lead R0) (length lead.own)))
     (commit_by_puts (state_of c.args.self.now pages) t sc lead None c.in_ok-t.ensures.1 there (sym c.shadow_at-lead.ensures) far none)
     (c.commit_slot.ensures ∙ ap (committed e t) (c.as_slice.ensures.items ∙ c.own_copy-own.ensures))
+
+pub returns-in-Some-clause-history : goal.returns-in-Some-clause-history
+returns-in-Some-clause-history g c = by_any _ _ _ _ (λ _. search rules)
+
+pub returns-clause-history : goal.returns-clause-history
+returns-clause-history g c = by_any _ _ _ _ (λ _. search rules)

@@ -38,7 +38,7 @@ loop-i-preserved g c =
       subst (λ cs. CallsMade pages g.S.Store.wrote ar cs (take (i + 1) (set c.loop-i.answers i a)) c.new-engine.result c.args.store.now c.call.new.self c.call.new.store) (sym (one_more ar first calls i s s' a l inv.0 rule))
           (subst (λ told. CallsMade pages g.S.Store.wrote ar (first_calls i calls ++ call_of (get_or calls i (SetAllowance 0)) ∷ []) told c.new-engine.result c.args.store.now c.call.new.self c.call.new.store) (sym (take_more_set c.loop-i.answers i a room))
           (made_push pages g.S.Store.wrote ar (first_calls i calls) (take i c.loop-i.answers) c.new-engine.result c.args.store.now c.loop-i.engine c.loop-i.store (call_of (get_or calls i (SetAllowance 0))) a c.call.new.self c.call.new.store inv.5
-          (record { rule = rule; puts = puts; declined = c.call.ensures.declined; store = c.call.ensures.store }))),
+          (record { rule = rule; puts = puts; declined = c.call.ensures.declined; store = c.call.ensures.store; no_step = c.call.ensures.no_step }))),
     )
 
 pub returns : goal.returns
