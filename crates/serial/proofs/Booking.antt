@@ -1,20 +1,23 @@
 -- Every list of calls books serially. Assumes nothing.
-use Rattle.std.proofs.Common.{◌≡◌, ℕ, suc, ◌<◌, ◌≤◌, true, false, cond, ◌&&◌, eqb, leb, ◌≢◌, List, [], ◌∷◌, ◌++◌, length, set, Some, None, Ok, Err, Option, Result, unwrap_or, sym, refl, ap, ◌∙◌, subst, ⊎_elim, arith}
+use Rattle.std.proofs.Common.{◌≡◌, ℕ, suc, ◌<◌, ◌≤◌, Bool, true, false, cond, ◌&&◌, eqb, leb, ◌≢◌, List, [], ◌∷◌, ◌++◌, length, set, Some, None, Ok, Err, Option, Result, unwrap_or, sym, refl, ap, ◌∙◌, subst, ⊎_elim, arith}
 use Rattle.std.specs.List.{slice_get}
 use Rattle.std.proofs.lemmas.List.{append-nil, append_assoc}
 use Rattle.std.proofs.lemmas.Bool.{cases_Bool, cases_lt, cond-true, cond-false, cond_both, or_cases, leb-true, le-leb, ne_eqb, both_ways}
 use Rattle.script.specs.Script.{decoded}
-use Rattle.script.specs.declared.ScriptFault.{ScriptFault}
-use Rattle.serial.specs.declared.fault.Turned.TheVariants.{Waiting}
+use Rattle.pages.specs.Pages.{fault_at}
+use Rattle.serial.specs.declared.fault.CallFault.{CallFault}
+use Rattle.serial.specs.declared.fault.CallFault.TheVariants.{NoSlot, NotOpen, NoShadow, OffPages, NotEnded, Unwritable}
+use Rattle.serial.specs.declared.fault.Turned.TheVariants.{Moved, Ended, Waiting}
 use Rattle.serial.specs.declared.fault.Standing.{Standing}
 use Rattle.serial.specs.declared.fault.Standing.TheVariants.{AtEnd, Halted, Ready}
 use Rattle.serial.specs.declared.fault.Accepted.TheVariants.{Allowed, Begun, Took, Committed, Aborted}
-use Rattle.serial.specs.Faults.{Answer}
+use Rattle.serial.specs.Faults.{Answer, step_fault}
 use Rattle.serial.specs.Machine.{Meaning, Steps, Stand, start, Taken, moved, off_pages, store_read, has_read_any}
 use Rattle.serial.specs.Alone.{there, next, stand_at, whole_run, on_list, before_read_of, put_all}
 use Rattle.serial.specs.Laws.{Leads}
-use Rattle.serial.specs.Rules.{State, Done, fresh, script_of, is_open, shadow, place_of, lead_writes, own_of, waits, standing, in_range, first_open, allow_closed, begin_with, turn_step, turn_standing, turn_shadow, turn_open, committed, first_off, commit_puts, commit_lead, commit_open, abort_open, Call, set_allowance, begin, turn, commit, abort, does, after, answers}
+use Rattle.serial.specs.Rules.{State, Done, fresh, script_of, is_open, shadow, place_of, lead_writes, own_of, waits, standing, committed, Call, set_allowance, begin, turn, commit, abort, does, after, answers}
 use Rattle.serial.specs.Book.{Ledger, enters, books_run, books_commit, books, book_after, commits_among, Tidy, Rescued, EveryListBooked}
+use Rattle.serial.proofs.Opened.{allows-opened, begins-opened, turns-opened, turn-found, commits-opened, aborts-opened}
 use Rattle.serial.proofs.Runs.{leads-ends, reached_stand, reached_same, reached_later, past_read, first_reached, First}
 use Rattle.serial.proofs.Table.{none_is_some, some_is, none_is, some_or_none, shadow-within}
 use Rattle.serial.proofs.Turns.{moves-scripts}
@@ -38,36 +41,6 @@ module _ (ar : Meaning) where
   same_notes : (s : State) (notes : List (ℕ × ℕ)) → Some (Agrees s notes) ≡ Some (Agrees s (notes ++ []))
   same_notes s notes = ap (λ n. Some (Agrees s n)) (sym (append-nil notes))
 
-  range_keeps : (c : Call) (s : State) (notes : List (ℕ × ℕ)) (t : ℕ) (rest : Done) → (t < 8 → Keeps c s notes rest) → Keeps c s notes (in_range s t rest)
-  range_keeps c s notes t rest h = cond_both (leb t 7) rest _ (Keeps c s notes) (λ e. let l = leb-true t 7 e in h (omega arith)) (λ e. same_notes s notes)
-
-  allow_keeps : (k : ℕ) (s : State) (notes : List (ℕ × ℕ)) (o : Option ℕ) → Keeps (set_allowance k) s notes (allow_closed s k o)
-  allow_keeps k s notes (Some t) = same_notes s notes
-  allow_keeps k s notes None = same_notes s notes
-
-  begin-keeps : (t : ℕ) (bytes : List ℕ) (s : State) (notes : List (ℕ × ℕ)) (r : Result Steps ScriptFault) → decoded bytes ≡ r → Keeps (begin t bytes) s notes (begin_with s t r)
-  begin-keeps t bytes s notes (Err f) h = same_notes s notes
-  begin-keeps t bytes s notes (Ok sc) h = ap (enters (Agrees s notes) t) h ∙ ap (λ n. Some (record { pages = s.pages; scripts = set s.engine.scripts t (Some sc); notes = n })) (sym (append-nil notes))
-
-  turn_step-keeps : (t u : ℕ) (s : State) (notes : List (ℕ × ℕ)) (sc : Steps) (at : Stand) → Good ar s → script_of s.engine t ≡ Some sc → (o : Option Taken) → Keeps (turn t u) s notes (turn_step s t u sc at o)
-  turn_step-keeps t u s notes sc at g script None = same_notes s notes
-  turn_step-keeps t u s notes sc at g script (Some (off_pages p)) = same_notes s notes
-  turn_step-keeps t u s notes sc at g script (Some (moved to)) =
-      ap (λ n. Some (Agrees s n)) (sym (append-nil notes)) ∙ ap (λ x. Some (record { pages = s.pages; scripts = x; notes = notes ++ [] })) (sym (moves-scripts s.engine t u sc at to))
-
-  turn_standing-keeps : (t u : ℕ) (s : State) (notes : List (ℕ × ℕ)) (sc : Steps) (at : Stand) → Good ar s → script_of s.engine t ≡ Some sc → (o : Standing) → Keeps (turn t u) s notes (turn_standing ar s t u sc at o)
-  turn_standing-keeps t u s notes sc at g script AtEnd = same_notes s notes
-  turn_standing-keeps t u s notes sc at g script Halted = same_notes s notes
-  turn_standing-keeps t u s notes sc at g script Ready = turn_step-keeps t u s notes sc at g script (next ar sc s.pages at)
-
-  turn_shadow-keeps : (t u : ℕ) (s : State) (notes : List (ℕ × ℕ)) (sc : Steps) → Good ar s → script_of s.engine t ≡ Some sc → (o : Option Stand) → Keeps (turn t u) s notes (turn_shadow ar s t u sc o)
-  turn_shadow-keeps t u s notes sc g script None = same_notes s notes
-  turn_shadow-keeps t u s notes sc g script (Some at) = turn_standing-keeps t u s notes sc at g script (standing s.engine t u sc at)
-
-  turn_open-keeps : (t u : ℕ) (s : State) (notes : List (ℕ × ℕ)) → Good ar s → (o : Option Steps) → script_of s.engine t ≡ o → Keeps (turn t u) s notes (turn_open ar s t u o)
-  turn_open-keeps t u s notes g None h = same_notes s notes
-  turn_open-keeps t u s notes g (Some sc) h = turn_shadow-keeps t u s notes sc g h (shadow s.engine t u)
-
   -- a leading shadow at its end stands where the whole run alone ends
   pub lead_ends : (s : State) (t : ℕ) (sc : Steps) (lead : Stand) → Good ar s → script_of s.engine t ≡ Some sc → shadow s.engine t t ≡ Some lead → length sc ≤ lead.step → whole_run ar sc s.pages ≡ there lead
   lead_ends s t sc lead g script h far =
@@ -76,32 +49,17 @@ module _ (ar : Meaning) where
       let e : length sc ≡ lead.step = omega arith in
       ap (stand_at ar sc s.pages) e ∙ reached_stand ar sc s.pages lead l near
 
-  commit_puts-keeps : (t : ℕ) (s : State) (notes : List (ℕ × ℕ)) (sc : Steps) (lead : Stand) → script_of s.engine t ≡ Some sc → whole_run ar sc s.pages ≡ there lead → (o : Option ℕ) → Keeps (commit t) s notes (commit_puts s t lead o)
-  commit_puts-keeps t s notes sc lead script run (Some p) = same_notes s notes
-  commit_puts-keeps t s notes sc lead script run None =
-      ap (books_commit ar (Agrees s notes) t) script ∙ ap (books_run (Agrees s notes) t) run
-
-  commit_open-keeps : (t : ℕ) (s : State) (notes : List (ℕ × ℕ)) → Good ar s → (o : Option Steps) → script_of s.engine t ≡ o → Keeps (commit t) s notes (commit_open s t o)
-  commit_open-keeps t s notes g None h = same_notes s notes
-  commit_open-keeps t s notes g (Some sc) h =
-      let o = some_is (shadow s.engine t t) ((g.rows t).led sc h) in
-      let is_lead : unwrap_or (shadow s.engine t t) start ≡ o.0 = ap (λ x. unwrap_or x start) o.1 in
-      subst (λ lead. Keeps (commit t) s notes (commit_lead s t sc lead)) (sym is_lead)
-      (cond_both {A = Done} (leb (length sc) o.0.step) _ _ (Keeps (commit t) s notes)
-      (λ e. commit_puts-keeps t s notes sc o.0 h (lead_ends s t sc o.0 g h o.1 (leb-true (length sc) o.0.step e)) (first_off (length s.pages) o.0.own))
-      (λ e. same_notes s notes))
-
-  abort_open-keeps : (t : ℕ) (s : State) (notes : List (ℕ × ℕ)) (o : Option Steps) → Keeps (abort t) s notes (abort_open s t o)
-  abort_open-keeps t s notes None = same_notes s notes
-  abort_open-keeps t s notes (Some sc) = ap (λ n. Some (record { pages = s.pages; scripts = set s.engine.scripts t None; notes = n })) (sym (append-nil notes))
-
   keeps : (c : Call) (s : State) (notes : List (ℕ × ℕ)) → Good ar s → Keeps c s notes (does ar c s)
-  keeps (set_allowance k) s notes g = cond_both {A = Done} (leb 1 k && leb k 8) _ _ (Keeps (set_allowance k) s notes) (λ e. allow_keeps k s notes (first_open 0 s.engine.scripts)) (λ e. same_notes s notes)
-  keeps (begin t bytes) s notes g =
-      range_keeps (begin t bytes) s notes t _ (λ l. cond_both {A = Done} (is_open s.engine t) _ _ (Keeps (begin t bytes) s notes) (λ e. same_notes s notes) (λ e. begin-keeps t bytes s notes (decoded bytes) refl))
-  keeps (turn t u) s notes g = range_keeps (turn t u) s notes t _ (λ l. range_keeps (turn t u) s notes u _ (λ k. turn_open-keeps t u s notes g (script_of s.engine t) refl))
-  keeps (commit t) s notes g = range_keeps (commit t) s notes t _ (λ l. commit_open-keeps t s notes g (script_of s.engine t) refl)
-  keeps (abort t) s notes g = range_keeps (abort t) s notes t _ (λ l. abort_open-keeps t s notes (script_of s.engine t))
+  keeps (set_allowance k) s notes g = let same = same_notes s notes in allows-opened s (Keeps (set_allowance k) s notes) k (λ _. same) (λ _ _ _ _. same) (λ _ _ _. same)
+  keeps (begin t bytes) s notes g = let same = same_notes s notes in begins-opened s (Keeps (begin t bytes) s notes) t bytes (λ _. same) (λ _ _. same) (λ _ _ _ _. same)
+      (λ _ _ sc h. ap (enters (Agrees s notes) t) h ∙ ap (λ n. Some (record { pages = s.pages; scripts = set s.engine.scripts t (Some sc); notes = n })) (sym (append-nil notes)))
+  keeps (turn t u) s notes g = let same = same_notes s notes in turns-opened s (Keeps (turn t u) s notes) ar t u (λ _. same) (λ _ _. same) (λ _ _ _. same) (λ _ _ _ _ _. same)
+      (λ _ _ sc script at h. turn-found s (Keeps (turn t u) s notes) ar t u sc at (λ _. same) (λ _. same) (λ _ _. same) (λ _ _ _. same)
+      (λ _ to _. same ∙ ap (λ x. Some (record { pages = s.pages; scripts = x; notes = notes ++ [] })) (sym (moves-scripts s.engine t u sc at to))))
+  keeps (commit t) s notes g = let same = same_notes s notes in commits-opened s (Keeps (commit t) s notes) t (λ _. same) (λ _ _. same) (λ _ _ _ _. same) (λ _ _ _ _ _ _. same) (λ _ _ _ _ _ _ _ _. same)
+      (λ _ sc script lead leads far _. ap (books_commit ar (Agrees s notes) t) script ∙ ap (books_run (Agrees s notes) t) (lead_ends s t sc lead g script leads far))
+  keeps (abort t) s notes g = let same = same_notes s notes in aborts-opened s (Keeps (abort t) s notes) t (λ _. same) (λ _ _. same)
+      (λ _ _. ap (λ n. Some (record { pages = s.pages; scripts = set s.engine.scripts t None; notes = n })) (sym (append-nil notes)))
 
   among_more : (a : Answer) (rest : List Answer) → noted_answer a ++ commits_among rest ≡ commits_among (a ∷ rest)
   among_more (Ok (Committed r n)) rest = refl
@@ -120,29 +78,35 @@ module _ (ar : Meaning) where
       ∙ ap (λ n. Some (Agrees (after ar cs d.0) n)) (append_assoc notes (noted_answer d.1) (commits_among (answers ar cs d.0)) ∙ ap (λ n. notes ++ n) (among_more d.1 (answers ar cs d.0)))
 
   -- a shadow that a turn finds waiting is waiting
-  waiting_waits : (s : State) (v t : ℕ) (sc : Steps) (r : Stand) → v < 8 → t < 8 → t ≢ v → script_of s.engine v ≡ Some sc → shadow s.engine v t ≡ Some r → (does ar (turn v t) s).1 ≡ Ok (Took Waiting) → waits s.engine v t sc r ≡ true
-  waiting_waits s v t sc r v_in t_in ne script here_now h =
-      let e = s.engine in
-      let to_shadow : (does ar (turn v t) s).1 ≡ (turn_standing ar s v t sc r (standing e v t sc r)).1 =
-      ap (λ d. d.1) (cond-true (leb v 7) (in_range s t (turn_open ar s v t (script_of e v))) _ (below v v_in)
-      ∙ cond-true (leb t 7) (turn_open ar s v t (script_of e v)) _ (below t t_in)
-      ∙ ap (turn_open ar s v t) script ∙ ap (turn_shadow ar s v t sc) here_now) in
-      let is_standing : standing e v t sc r ≡ cond (waits e v t sc r) Halted Ready = cond-false (eqb t v) (cond (leb (length sc) r.step) AtEnd Ready) (cond (waits e v t sc r) Halted Ready) (ne_eqb t v ne) in
-      ⊎_elim
-      (λ (w : waits e v t sc r ≡ true). w)
-      (λ (w : waits e v t sc r ≡ false).
-      let stands : standing e v t sc r ≡ Ready = is_standing ∙ ap (λ b. cond b Halted Ready) w in
-      let answer : (turn_step s v t sc r (next ar sc s.pages r)).1 ≡ Ok (Took Waiting) = ap (λ x. (turn_standing ar s v t sc r x).1) (sym stands) ∙ sym to_shadow ∙ h in
-      absurd (never s v t sc r (next ar sc s.pages r) answer))
-      (cases_Bool (waits e v t sc r))
+  waiting_waits : (s : State) (v t : ℕ) (sc : Steps) (r : Stand) → t ≢ v → script_of s.engine v ≡ Some sc → shadow s.engine v t ≡ Some r → (does ar (turn v t) s).1 ≡ Ok (Took Waiting) → waits s.engine v t sc r ≡ true
+  waiting_waits s v t sc r ne script here_now =
+      turns-opened s Waited ar v t (λ _. refused (NoSlot v)) (λ _ _. refused (NoSlot t)) (λ _ _ _. refused (NotOpen v)) (λ _ _ _ _ _. refused (NoShadow t))
+      (λ _ _ sc' script' r' here'. turn-found s Waited ar v t sc' r' (λ _. ended) (λ h _. halted sc' r' script' here' h) (λ _ _. ended) (λ _ p _. refused (OffPages (step_fault v r'.step (fault_at p)))) (λ _ to _. moved_on s))
     where
-      below : (n : ℕ) → n < 8 → leb n 7 ≡ true
-      below n l = le-leb n 7 (omega arith)
+      Waited : Done → Type 0
+      Waited d = d.1 ≡ Ok (Took Waiting) → waits s.engine v t sc r ≡ true
 
-      never : (s : State) (v t : ℕ) (sc : Steps) (r : Stand) (o : Option Taken) → (turn_step s v t sc r o).1 ≡ Ok (Took Waiting) → ⊥
-      never s v t sc r None h = let z : ◌≡◌ {A = ℕ} 0 1 = cc in omega arith
-      never s v t sc r (Some (off_pages p)) h = let z : ◌≡◌ {A = ℕ} 0 1 = cc in omega arith
-      never s v t sc r (Some (moved to)) h = let z : ◌≡◌ {A = ℕ} 0 1 = cc in omega arith
+      refused : (f : CallFault) → Err f ≡ Ok (Took Waiting) → waits s.engine v t sc r ≡ true
+      refused f e = let z : ◌≡◌ {A = ℕ} 0 1 = cc in absurd (omega arith)
+
+      ended : ◌≡◌ {A = Answer} (Ok (Took Ended)) (Ok (Took Waiting)) → waits s.engine v t sc r ≡ true
+      ended e = let z : ◌≡◌ {A = ℕ} 0 1 = cc in absurd (omega arith)
+
+      moved_on : (x : State) → ◌≡◌ {A = Answer} (Ok (Took Moved)) (Ok (Took Waiting)) → waits s.engine v t sc r ≡ true
+      moved_on x e = let z : ◌≡◌ {A = ℕ} 0 1 = cc in absurd (omega arith)
+
+      halted_waits : (b : Bool) → cond b Halted Ready ≡ Halted → b ≡ true
+      halted_waits true h = refl
+      halted_waits false h = let z : ◌≡◌ {A = ℕ} 0 1 = cc in absurd (omega arith)
+
+      halted : (sc' : Steps) (r' : Stand) → script_of s.engine v ≡ Some sc' → shadow s.engine v t ≡ Some r' → standing s.engine v t sc' r' ≡ Halted → waits s.engine v t sc r ≡ true
+      halted sc' r' script' here' h =
+          let scripts : Some sc' ≡ Some sc = sym script' ∙ script in
+          let stands : Some r' ≡ Some r = sym here' ∙ here_now in
+          let same_script : sc' ≡ sc = cc in
+          let same : r' ≡ r = cc in
+          subst (λ z. waits s.engine v t sc z ≡ true) same (subst (λ z. waits s.engine v t z r' ≡ true) same_script
+          (halted_waits (waits s.engine v t sc' r') (sym (cond-false (eqb t v) (cond (leb (length sc') r'.step) AtEnd Ready) (cond (waits s.engine v t sc' r') Halted Ready) (ne_eqb t v ne)) ∙ h)))
 
   -- a commit under allowance 8 rescues what it spoils
   rescued : (s : State) (t : ℕ) (last : Stand) → Good ar s → s.engine.allowance ≡ 8 → shadow s.engine t t ≡ Some last
@@ -164,7 +128,7 @@ module _ (ar : Meaning) where
         r.0,
         r.1,
         λ waiting.
-            let w = waiting_waits s v t sc r.0 v_in t_in t_ne script r.1 waiting in
+            let w = waiting_waits s v t sc r.0 t_ne script r.1 waiting in
             let at_first : r.0 ≡ first = ⊎_elim
             (λ (level : leb (place_of (shadow e v v)) r.0.step ≡ true).
             -- level with the lead it would be the lead, which has read what it has not
@@ -204,24 +168,17 @@ module _ (ar : Meaning) where
     abbrev pub Leaves : Done → Type 0
     Leaves d = d.1 ≡ Ok (Committed r n) → d.0 ≡ record { engine = committed s.engine t last.own; pages = put_all last.own s.pages }
 
-    puts-leaves : (o : Option ℕ) → Leaves (commit_puts s t last o)
-    puts-leaves (Some p) = λ e. let z : ◌≡◌ {A = ℕ} 0 1 = cc in absurd (omega arith)
-    puts-leaves None = λ e. refl
-
-    open_leaves : (o : Option Steps) → Leaves (commit_open s t o)
-    open_leaves None = λ e. let z : ◌≡◌ {A = ℕ} 0 1 = cc in absurd (omega arith)
-    open_leaves (Some sc) =
-        let is_lead : unwrap_or (shadow s.engine t t) start ≡ last = ap (λ x. unwrap_or x start) lead in
-        subst (λ l. Leaves (commit_lead s t sc l)) (sym is_lead)
-        (cond_both {A = Done} (leb (length sc) last.step) _ _ Leaves
-        (λ e. puts-leaves (first_off (length s.pages) last.own))
-        (λ e q. let z : ◌≡◌ {A = ℕ} 0 1 = cc in absurd (omega arith)))
+    refused_leaves : (f : CallFault) → Leaves (s, Err f)
+    refused_leaves f e = let z : ◌≡◌ {A = ℕ} 0 1 = cc in absurd (omega arith)
 
     pub commit-leaves : Leaves (does ar (commit t) s)
     commit-leaves =
-        cond_both {A = Done} (leb t 7) _ _ Leaves
-        (λ e. open_leaves (script_of s.engine t))
-        (λ e k. let z : ◌≡◌ {A = ℕ} 0 1 = cc in absurd (omega arith))
+        commits-opened s Leaves t (λ _. refused_leaves (NoSlot t)) (λ _ _. refused_leaves (NotOpen t)) (λ _ _ _ _. refused_leaves (NotOpen t)) (λ _ _ _ l _ _. refused_leaves (NotEnded l.step))
+        (λ _ _ _ _ _ _ p _. refused_leaves (Unwritable t (fault_at p)))
+        (λ _ _ _ l leads _ _ _.
+        let leads_same : Some l ≡ Some last = sym leads ∙ lead in
+        let same : l ≡ last = cc in
+        ap (λ z. record { engine = committed s.engine t z.own; pages = put_all z.own s.pages }) same)
 
   -- the invariant, as the theorem has it
   good_tidy : (s : State) → Good ar s → Tidy s.engine

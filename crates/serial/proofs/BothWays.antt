@@ -22,7 +22,7 @@ use Rattle.serial.specs.declared.fault.CallFault.TheVariants.{NoSlot, BadAllowan
 use Rattle.serial.specs.Faults.{Answer, step_fault, call_cause}
 use Rattle.serial.specs.Machine.{Meaning, Steps, Stand, start, holds, Taken, moved, off_pages, takes, store_read, has_written}
 use Rattle.serial.specs.Alone.{next, try_step, on_list, put_all}
-use Rattle.serial.specs.Rules.{Engine, State, Done, script_of, is_open, shadow, place_of, lead_writes, waits, standing, decline, in_range, first_open, allow_closed, allows, begin_with, begins, shadow_moves, turn_step, turn_standing, turn_shadow, turn_open, turns, first_off, commit_puts, commit_lead, commit_open, commits, abort_open, aborts, Call, set_allowance, begin, turn, commit, abort, does, after, answers}
+use Rattle.serial.specs.Rules.{Engine, State, Done, script_of, is_open, shadow, place_of, lead_writes, waits, standing, first_open, allows, begins, shadow_moves, turns, first_off, commits, aborts, Call, set_allowance, begin, turn, commit, abort, does, after, answers}
 use Rattle.serial.specs.Questions.{of_shadow, of_open, asked, stand_told, entry_told}
 use Rattle.serial.specs.Sound.{SoundEngine}
 use Rattle.serial.specs.Words.{Waits, Finds, ShadowMoves, TurnAccepted, Commits, Aborts, Opens, Allows, Accepts}
@@ -31,6 +31,7 @@ use Rattle.serial.specs.Outcome.{Outcome, OneOutcome, DeclinedExactly, AcceptedE
 use Rattle.serial.proofs.Table.{none_is_some, some_is, none_is, some_or_none}
 use Rattle.serial.proofs.Turns.{open_within}
 use Rattle.serial.proofs.Calls.{none_open}
+use Rattle.serial.proofs.Opened.{below_eight, from_eight, allows-opened, begins-opened, turns-opened, turn-found, commits-opened, aborts-opened}
 use Rattle.serial.proofs.Outcomes.{ready_before_end}
 use Rattle.serial.proofs.Sound.{ok_from, sound_from, Holds, does-sound}
 use Rattle.serial.proofs.Relations.{moves-one, commits-one, aborts-one, opens-one, allows-one}
@@ -151,226 +152,170 @@ module _ (ar : Meaning) (s : State) (o : Holds s.engine) where
       y)
       x
 
-  -- a test of a slot number
-  by_range : (P : Done → Type 0) (t : ℕ) (rest : Done) → (8 ≤ t → P (decline s (NoSlot t))) → (t < 8 → P rest) → P (in_range s t rest)
-  by_range P t rest f g = cond_both (leb t 7) rest (decline s (NoSlot t)) P (λ e. let l = leb-true t 7 e in g (omega arith)) (λ e. let l = leb-false t 7 e in f (omega arith))
+  -- what is declined with the least refusal that fits has its outcome
+  declined : (c : Call) (f : CallFault) → LeastFits (made c) s f → Outcome ar c s (s, Err f)
+  declined c f h = inr (f, h, refl)
 
-  -- set allowance
+  no_slot : (c : Call) (n : ℕ) → FirstNotBelow 8 (named (made c)) n → Outcome ar c s (s, Err (NoSlot n))
+  no_slot c n h = declined c (NoSlot n) (slot_least s (made c) n h)
+
   allow_outcome : (k : ℕ) → Outcome ar (set_allowance k) s (allows s k)
   allow_outcome k =
-      cond_both {A = Done} (leb 1 k && leb k 8) _ _ (Outcome ar (set_allowance k) s)
-      (λ e. let a = and_parts (leb 1 k) (leb k 8) e in within (leb-true 1 k a.0) (leb-true k 8 a.1) (first_open 0 s.engine.scripts) refl)
-      (λ e. inr (BadAllowance k, ((refl, outside e), λ g h. allow_fits s (λ g. (g ≡ BadAllowance k) ⊎ (2 < call_cause g)) k (λ _. inl refl) (λ t _. inr (omega arith)) g h), refl))
+      allows-opened s (Outcome ar (set_allowance k) s) k
+      (λ bad. declined (set_allowance k) (BadAllowance k) ((refl, bad), λ g h. allow_fits s (λ g. (g ≡ BadAllowance k) ⊎ (2 < call_cause g)) k (λ _. inl refl) (λ t _. inr (omega arith)) g h))
+      (λ t a b h.
+      let low = first_open_lowest s.engine t h in
+      declined (set_allowance k) (SlotsOpen t) ((k, refl, low), λ g z. allow_fits s (λ g. (g ≡ SlotsOpen t) ⊎ (3 < call_cause g)) k (λ bad. not_bad a b bad) (λ v other. inl (ap SlotsOpen (lowest-one s.engine v t other low))) g z))
+      (λ a b h. inl (
+        λ g z. allow_fits s (λ g. ⊥) k (λ bad. not_bad a b bad) (λ t low. true≢false (sym low.0 ∙ ap is_some (none_open ar 0 s.engine.scripts h t))) g z,
+        (record { allowance = refl; scripts = refl; shadows = refl }, refl, refl),
+      ))
     where
-      outside : (leb 1 k && leb k 8) ≡ false → (k < 1) ⊎ (8 < k)
-      outside e =
-          ⊎_elim
-          (λ (l : k < 1). inl l)
-          (λ (l : 1 ≤ k). ⊎_elim (λ (m : 8 < k). inr m) (λ (m : k ≤ 8). absurd (both_ways (leb 1 k && leb k 8) e (and_from (leb 1 k) (leb k 8) (le-leb 1 k l) (le-leb k 8 m)))) (cases_lt 8 k))
-          (cases_lt k 1)
-
       not_bad : {A : Type 0} → 1 ≤ k → k ≤ 8 → (k < 1) ⊎ (8 < k) → A
       not_bad a b h = ⊎_elim (λ (l : k < 1). absurd (omega arith)) (λ (l : 8 < k). absurd (omega arith)) h
 
-      within : 1 ≤ k → k ≤ 8 → (x : Option ℕ) → first_open 0 s.engine.scripts ≡ x → Outcome ar (set_allowance k) s (allow_closed s k x)
-      within a b None h = inl (
-        λ g z. allow_fits s (λ g. ⊥) k (λ bad. not_bad a b bad) (λ t low. true≢false (sym low.0 ∙ ap is_some (none_open ar 0 s.engine.scripts h t))) g z,
-        (record { allowance = refl; scripts = refl; shadows = refl }, refl, refl),
-      )
-      within a b (Some t) h =
-          let low = first_open_lowest s.engine t h in
-          inr (SlotsOpen t, ((k, refl, low), λ g z. allow_fits s (λ g. (g ≡ SlotsOpen t) ⊎ (3 < call_cause g)) k (λ bad. not_bad a b bad) (λ v other. inl (ap SlotsOpen (lowest-one s.engine v t other low))) g z), refl)
-
-  -- begin
   begin_outcome : (t : ℕ) (bytes : List ℕ) → Outcome ar (begin t bytes) s (begins s t bytes)
   begin_outcome t bytes =
-      by_range (Outcome ar (begin t bytes) s) t _
-      (λ l. inr (NoSlot t, slot_least s (made (begin t bytes)) t (inl (l, refl)), refl))
-      (λ l. cond_both {A = Done} (is_open s.engine t) _ _ (Outcome ar (begin t bytes) s)
-      (λ opened. inr (AlreadyOpen t, ((bytes, refl, opened), λ g h. begin_fits s (λ g. (g ≡ AlreadyOpen t) ⊎ (4 < call_cause g)) t bytes (λ n f. absurd (one_in s t n l f)) (λ _. inl refl) (λ f _. inr (after_four f)) g h), refl))
-      (λ shut. decoding l shut (decoded bytes) refl))
+      begins-opened s (Outcome ar (begin t bytes) s) t bytes
+      (λ l. no_slot (begin t bytes) t (inl (l, refl)))
+      (λ l full. declined (begin t bytes) (AlreadyOpen t) ((bytes, refl, full), λ g h. begin_fits s (λ g. (g ≡ AlreadyOpen t) ⊎ (4 < call_cause g)) t bytes (λ n f. absurd (one_in s t n l f)) (λ _. inl refl) (λ f _. inr (after_four f)) g h))
+      (λ l shut f h. declined (begin t bytes) (Undecoded f) (
+        (t, bytes, refl, h),
+        λ g z. begin_fits s (λ g. (g ≡ Undecoded f) ⊎ (call_cause (Undecoded f) < call_cause g)) t bytes (λ n x. absurd (one_in s t n l x)) (λ full. absurd (both_ways (is_open s.engine t) shut full))
+          (λ g k. let m : Err f ≡ Err g = sym h ∙ k in let same : f ≡ g = cc in inl (ap Undecoded (sym same))) g z,
+      ))
+      (λ l shut sc h. inl (
+        λ g z. begin_fits s (λ g. ⊥) t bytes (λ n x. one_in s t n l x) (λ full. both_ways (is_open s.engine t) shut full) (λ g k. let m : Ok sc ≡ Err g = sym h ∙ k in let no : ◌≡◌ {A = ℕ} 0 1 = cc in omega arith) g z,
+        (sc, h, opens_so s.engine o t l sc, refl, refl),
+      ))
     where
       after_four : (f : ScriptFault) → 4 < call_cause (Undecoded f)
       after_four f = (cause_low f).0
 
-      decoding : t < 8 → is_open s.engine t ≡ false → (r : Result Steps ScriptFault) → decoded bytes ≡ r → Outcome ar (begin t bytes) s (begin_with s t r)
-      decoding l shut (Err f) h = inr (
-        Undecoded f,
-        (
-          (t, bytes, refl, h),
-          λ g z. begin_fits s (λ g. (g ≡ Undecoded f) ⊎ (call_cause (Undecoded f) < call_cause g)) t bytes (λ n x. absurd (one_in s t n l x)) (λ opened. absurd (both_ways (is_open s.engine t) shut opened))
-              (λ g k. let m : Err f ≡ Err g = sym h ∙ k in let same : f ≡ g = cc in inl (ap Undecoded (sym same))) g z,
-        ),
-        refl,
-      )
-      decoding l shut (Ok sc) h = inl (
-        λ g z. begin_fits s (λ g. ⊥) t bytes (λ n x. one_in s t n l x) (λ opened. both_ways (is_open s.engine t) shut opened) (λ g k. let m : Ok sc ≡ Err g = sym h ∙ k in let no : ◌≡◌ {A = ℕ} 0 1 = cc in omega arith) g z,
-        (sc, h, opens_so s.engine o t l sc, refl, refl),
-      )
+  -- a turn of a shadow that is there
+  module _ (t u : ℕ) (l : t < 8) (k : u < 8) (sc : Steps) (at : Stand) (script : script_of s.engine t ≡ Some sc) (stands : shadow s.engine t u ≡ Some at) where
+    -- of all refusals only a step for a missing page is left
+    turn_left : (P : CallFault → Type 0) → ((f : StepFault) → StepOff s t u f → P (OffPages f)) → (g : CallFault) → Fits (made (turn t u)) s g → P g
+    turn_left P h g z = turn_fits s P t u (λ n x. absurd (both_in s t u n l k x)) (λ x. absurd (both_ways (is_open s.engine t) x (ap is_some script))) (λ x. none_is_some at (sym x ∙ stands)) h g z
 
-  -- turn
-  module _ (t u : ℕ) where
-    abbrev TurnOutcome : Done → Type 0
-    TurnOutcome d = Outcome ar (turn t u) s d
-
-    module _ (l : t < 8) (k : u < 8) (sc : Steps) (at : Stand) (script : script_of s.engine t ≡ Some sc) (stands : shadow s.engine t u ≡ Some at) where
-      opened : is_open s.engine t ≡ true
-      opened = ap is_some script
-
-      -- of all refusals only a step for a missing page is left
-      turn_left : (P : CallFault → Type 0) → ((f : StepFault) → StepOff s t u f → P (OffPages f)) → (g : CallFault) → Fits (made (turn t u)) s g → P g
-      turn_left P h g z = turn_fits s P t u (λ n x. absurd (both_in s t u n l k x)) (λ x. absurd (both_ways (is_open s.engine t) x opened)) (λ x. none_is_some at (sym x ∙ stands)) h g z
-
-      -- one that is off is ready, and its step leads off
-      off_there : (f : StepFault) (x : StepOff s t u f) → Finds s.engine t u sc at Ready × (next ar sc s.pages at ≡ Some (off_pages x.page))
-      off_there f x =
-          let scripts : Some x.script ≡ Some sc = sym x.runs ∙ script in
-          let ats : Some x.at ≡ Some at = sym x.stands ∙ stands in
-          let same : x.script ≡ sc = cc in
-          let same_at : x.at ≡ at = cc in (
-            subst (λ z. Finds s.engine t u sc z Ready) same_at (subst (λ z. Finds s.engine t u z x.at Ready) same x.ready),
-            subst (λ z. next ar sc s.pages z ≡ Some (off_pages x.page)) same_at (subst (λ z. next ar z s.pages x.at ≡ Some (off_pages x.page)) same (touches_off s.pages x.at ar (slice_get x.script x.at.step) x.page x.touches x.off)),
-          )
-
-      still_outcome : (how : Standing) (d : Done) → Finds s.engine t u sc at how → how ≢ Ready → (how ≡ AtEnd → d ≡ (s, Ok (Took Ended))) → (how ≡ Halted → d ≡ (s, Ok (Took Waiting))) → TurnOutcome d
-      still_outcome how d f ne ended waiting = inl (
-        turn_left (λ g. ⊥) (λ g x. ne (finds-one s.engine t u sc at how Ready f (off_there g x).0)),
-        record {
-          script = sc;
-          at = at;
-          runs = script;
-          stands = stands;
-          ended = λ z. ended (finds-one s.engine t u sc at how AtEnd f z);
-          waiting = λ z. waiting (finds-one s.engine t u sc at how Halted f z);
-          moves = λ z. absurd (ne (finds-one s.engine t u sc at how Ready f z));
-        },
-      )
-
-      step_outcome : Finds s.engine t u sc at Ready → (x : Option Taken) → next ar sc s.pages at ≡ x → TurnOutcome (turn_step s t u sc at x)
-      step_outcome f None h =
-          let before = ready_before_end s.engine (sound_from s.engine o) t u sc at script stands (finds-one s.engine t u sc at (standing s.engine t u sc at) Ready (finds_standing s.engine o t u sc at script) f) in
-          ⊎_elim
-          (λ (x : (st : Step) × (at.step < length sc) × (slice_get sc at.step ≡ Some st) × (get_or sc at.step st ≡ st)). none_is_some (takes ar s.pages x.0 at) (sym h ∙ ap (try_step ar s.pages at) x.2))
-          (λ (x : (length sc ≤ at.step) × (slice_get sc at.step ≡ None)). let far = x.0 in absurd (omega arith))
-          (slice_get_cases sc at.step).1
-      step_outcome f (Some (off_pages p)) h =
-          let lacks = off_touches s.pages at ar (slice_get sc at.step) p h in
-          let here : StepOff s t u (step_fault t at.step (fault_at p)) = record { script = sc; at = at; page = p; runs = script; stands = stands; ready = f; touches = lacks.0; off = lacks.1; told = refl } in
-          inr (OffPages (step_fault t at.step (fault_at p)), ((t, u, refl, here), turn_left (λ g. (g ≡ OffPages (step_fault t at.step (fault_at p))) ⊎ (9 < call_cause g)) (λ g x. inl (ap OffPages (step_off-one s t u _ g here x)))), refl)
-      step_outcome f (Some (moved to)) h = inl (
-        turn_left (λ g. ⊥) (λ g x. let m : Some (moved to) ≡ Some (off_pages x.page) = sym h ∙ (off_there g x).1 in let no : ◌≡◌ {A = ℕ} 0 1 = cc in omega arith),
-        record {
-          script = sc;
-          at = at;
-          runs = script;
-          stands = stands;
-          ended = λ z. let q = finds-one s.engine t u sc at Ready AtEnd f z in let no : ◌≡◌ {A = ℕ} 0 1 = cc in absurd (omega arith);
-          waiting = λ z. let q = finds-one s.engine t u sc at Ready Halted f z in let no : ◌≡◌ {A = ℕ} 0 1 = cc in absurd (omega arith);
-          moves = λ z. (to, h, moves_so ar s o t u sc at to script stands h, refl, refl);
-        },
-      )
-
-      standing_outcome : (how : Standing) → Finds s.engine t u sc at how → TurnOutcome (turn_standing ar s t u sc at how)
-      standing_outcome AtEnd f = still_outcome AtEnd (s, Ok (Took Ended)) f (λ q. let no : ◌≡◌ {A = ℕ} 0 1 = cc in omega arith) (λ q. refl) (λ q. let no : ◌≡◌ {A = ℕ} 0 1 = cc in absurd (omega arith))
-      standing_outcome Halted f = still_outcome Halted (s, Ok (Took Waiting)) f (λ q. let no : ◌≡◌ {A = ℕ} 0 1 = cc in omega arith) (λ q. let no : ◌≡◌ {A = ℕ} 0 1 = cc in absurd (omega arith)) (λ q. refl)
-      standing_outcome Ready f = step_outcome f (next ar sc s.pages at) refl
-
-    shadow_outcome : t < 8 → u < 8 → (sc : Steps) → script_of s.engine t ≡ Some sc → (x : Option Stand) → shadow s.engine t u ≡ x → TurnOutcome (turn_shadow ar s t u sc x)
-    shadow_outcome l k sc script None h = inr (
-      NoShadow u,
-      (
-        (t, refl, h),
-        λ g z. turn_fits s (λ g. (g ≡ NoShadow u) ⊎ (8 < call_cause g)) t u (λ n x. absurd (both_in s t u n l k x)) (λ x. absurd (both_ways (is_open s.engine t) x (ap is_some script))) (λ _. inl refl) (λ f _. inr (omega arith)) g z,
-      ),
-      refl,
-    )
-    shadow_outcome l k sc script (Some at) h = standing_outcome l k sc at script h (standing s.engine t u sc at) (finds_standing s.engine o t u sc at script)
-
-    open_outcome : t < 8 → u < 8 → (x : Option Steps) → script_of s.engine t ≡ x → TurnOutcome (turn_open ar s t u x)
-    open_outcome l k None h = inr (
-      NotOpen t,
-      (
-        (refl, ap is_some h),
-        λ g z. turn_fits s (λ g. (g ≡ NotOpen t) ⊎ (7 < call_cause g)) t u (λ n x. absurd (both_in s t u n l k x)) (λ _. inl refl) (λ _. inr (omega arith)) (λ f _. inr (omega arith)) g z,
-      ),
-      refl,
-    )
-    open_outcome l k (Some sc) h = shadow_outcome l k sc h (shadow s.engine t u) refl
-
-    turn_outcome : TurnOutcome (turns ar s t u)
-    turn_outcome =
-        by_range TurnOutcome t _
-        (λ l. inr (NoSlot t, slot_least s (made (turn t u)) t (inl (l, refl)), refl))
-        (λ l. by_range TurnOutcome u _
-        (λ k. inr (NoSlot u, slot_least s (made (turn t u)) u (inr (l, inl (k, refl))), refl))
-        (λ k. open_outcome l k (script_of s.engine t) refl))
-
-  -- commit
-  module _ (t : ℕ) where
-    abbrev CommitOutcome : Done → Type 0
-    CommitOutcome d = Outcome ar (commit t) s d
-
-    puts_outcome : t < 8 → (sc : Steps) (lead : Stand) → script_of s.engine t ≡ Some sc → shadow s.engine t t ≡ Some lead → length sc ≤ lead.step → (x : Option ℕ) → first_off (length s.pages) lead.own ≡ x → CommitOutcome (commit_puts s t lead x)
-    puts_outcome l sc lead script leads far x h = by x h
-      where
-        not_early : {A : Type 0} (n : ℕ) → BeforeEnd s t n → A
-        not_early n b =
-            let scripts : Some b.script ≡ Some sc = sym b.runs ∙ script in
-            let stands : Some b.lead ≡ Some lead = sym b.leads ∙ leads in
-            let same : b.script ≡ sc = cc in
-            let same_at : b.lead ≡ lead = cc in
-            let before : lead.step < length sc = subst (λ z. lead.step < length z) same (subst (λ z. z.step < length b.script) same_at b.before) in
-            absurd (omega arith)
-
-        commit_left : (P : CallFault → Type 0) → ((f : StoreFault) → ListOff s t f → P (Unwritable t f)) → (g : CallFault) → Fits (made (commit t)) s g → P g
-        commit_left P f g z = commit_fits s P t (λ n q. absurd (one_in s t n l q)) (λ q. absurd (both_ways (is_open s.engine t) q (ap is_some script))) (λ n b. not_early n b) f g z
-
-        by : (x : Option ℕ) → first_off (length s.pages) lead.own ≡ x → CommitOutcome (commit_puts s t lead x)
-        by (Some p) h =
-            let here : ListOff s t (fault_at p) = record { lead = lead; page = p; leads = leads; off = off_first (length s.pages) lead.own p h; told = refl } in
-            inr (Unwritable t (fault_at p), ((refl, here), commit_left (λ g. (g ≡ Unwritable t (fault_at p)) ⊎ (11 < call_cause g)) (λ f z. inl (ap (Unwritable t) (list_off-one s t (fault_at p) f here z)))), refl)
-        by None h = inl (
-          commit_left (λ g. ⊥) (λ f z.
-              let stands : Some z.lead ≡ Some lead = sym z.leads ∙ leads in
-              let same : z.lead ≡ lead = cc in
-              none_off (length s.pages) lead.own z.page h (subst (λ y. FirstNotBelow (length s.pages) (map (λ w. w.page) y.own) z.page) same z.off)),
-          (lead, leads, commits_so s.engine o t l lead.own, refl, refl),
+    -- one that is off is ready, and its step leads off
+    off_there : (f : StepFault) (x : StepOff s t u f) → Finds s.engine t u sc at Ready × (next ar sc s.pages at ≡ Some (off_pages x.page))
+    off_there f x =
+        let scripts : Some x.script ≡ Some sc = sym x.runs ∙ script in
+        let ats : Some x.at ≡ Some at = sym x.stands ∙ stands in
+        let same : x.script ≡ sc = cc in
+        let same_at : x.at ≡ at = cc in (
+          subst (λ z. Finds s.engine t u sc z Ready) same_at (subst (λ z. Finds s.engine t u z x.at Ready) same x.ready),
+          subst (λ z. next ar sc s.pages z ≡ Some (off_pages x.page)) same_at (subst (λ z. next ar z s.pages x.at ≡ Some (off_pages x.page)) same (touches_off s.pages x.at ar (slice_get x.script x.at.step) x.page x.touches x.off)),
         )
 
-    lead_outcome : t < 8 → (sc : Steps) (lead : Stand) → script_of s.engine t ≡ Some sc → shadow s.engine t t ≡ Some lead → CommitOutcome (commit_lead s t sc lead)
-    lead_outcome l sc lead script leads =
-        cond_both {A = Done} (leb (length sc) lead.step) _ _ CommitOutcome
-        (λ e. puts_outcome l sc lead script leads (leb-true (length sc) lead.step e) (first_off (length s.pages) lead.own) refl)
-        (λ e.
-        let here : BeforeEnd s t lead.step = record { script = sc; lead = lead; runs = script; leads = leads; before = leb-false (length sc) lead.step e; told = refl } in
-        inr (NotEnded lead.step, ((t, refl, here), λ g z. commit_fits s (λ g. (g ≡ NotEnded lead.step) ⊎ (10 < call_cause g)) t (λ n q. absurd (one_in s t n l q)) (λ q. absurd (both_ways (is_open s.engine t) q (ap is_some script))) (λ n b. inl (ap NotEnded (before_end-one s t lead.step n here b))) (λ f _. inr (omega arith)) g z), refl))
+    -- it finds what the rule says
+    found : (how : Standing) → standing s.engine t u sc at ≡ how → Finds s.engine t u sc at how
+    found how h = subst (Finds s.engine t u sc at) h (finds_standing s.engine o t u sc at script)
 
-    commit_outcome : CommitOutcome (commits s t)
-    commit_outcome =
-        by_range CommitOutcome t _
-        (λ l. inr (NoSlot t, slot_least s (made (commit t)) t (inl (l, refl)), refl))
-        (λ l. by l (script_of s.engine t) refl)
-      where
-        by : t < 8 → (x : Option Steps) → script_of s.engine t ≡ x → CommitOutcome (commit_open s t x)
-        by l None h = inr (NotOpen t, ((refl, ap is_some h), λ g z. commit_fits s (λ g. (g ≡ NotOpen t) ⊎ (7 < call_cause g)) t (λ n q. absurd (one_in s t n l q)) (λ _. inl refl) (λ n _. inr (omega arith)) (λ f _. inr (omega arith)) g z), refl)
-        by l (Some sc) h =
-            let lead = some_is (shadow s.engine t t) (o.led t (ap is_some h)) in
-            let is_lead : unwrap_or (shadow s.engine t t) start ≡ lead.0 = ap (λ x. unwrap_or x start) lead.1 in
-            subst (λ z. CommitOutcome (commit_lead s t sc z)) (sym is_lead) (lead_outcome l sc lead.0 h lead.1)
+    still_outcome : (how : Standing) (d : Done) → standing s.engine t u sc at ≡ how → how ≢ Ready → (how ≡ AtEnd → d ≡ (s, Ok (Took Ended))) → (how ≡ Halted → d ≡ (s, Ok (Took Waiting))) → Outcome ar (turn t u) s d
+    still_outcome how d h ne ended waiting =
+        let f = found how h in
+        inl (
+          turn_left (λ g. ⊥) (λ g x. ne (finds-one s.engine t u sc at how Ready f (off_there g x).0)),
+          record {
+            script = sc;
+            at = at;
+            runs = script;
+            stands = stands;
+            ended = λ z. ended (finds-one s.engine t u sc at how AtEnd f z);
+            waiting = λ z. waiting (finds-one s.engine t u sc at how Halted f z);
+            moves = λ z. absurd (ne (finds-one s.engine t u sc at how Ready f z));
+          },
+        )
 
-  -- abort
+    -- one that is able to try a step has one
+    has_step : {A : Type 0} → standing s.engine t u sc at ≡ Ready → next ar sc s.pages at ≡ None → A
+    has_step ready h =
+        let before = ready_before_end s.engine (sound_from s.engine o) t u sc at script stands ready in
+        ⊎_elim
+        (λ (x : (st : Step) × (at.step < length sc) × (slice_get sc at.step ≡ Some st) × (get_or sc at.step st ≡ st)). none_is_some (takes ar s.pages x.0 at) (sym h ∙ ap (try_step ar s.pages at) x.2))
+        (λ (x : (length sc ≤ at.step) × (slice_get sc at.step ≡ None)). let far = x.0 in absurd (omega arith))
+        (slice_get_cases sc at.step).1
+
+    off_outcome : standing s.engine t u sc at ≡ Ready → (p : ℕ) → next ar sc s.pages at ≡ Some (off_pages p) → Outcome ar (turn t u) s (s, Err (OffPages (step_fault t at.step (fault_at p))))
+    off_outcome ready p h =
+        let lacks = off_touches s.pages at ar (slice_get sc at.step) p h in
+        let here : StepOff s t u (step_fault t at.step (fault_at p)) = record { script = sc; at = at; page = p; runs = script; stands = stands; ready = found Ready ready; touches = lacks.0; off = lacks.1; told = refl } in
+        declined (turn t u) (OffPages (step_fault t at.step (fault_at p))) ((t, u, refl, here), turn_left (λ g. (g ≡ OffPages (step_fault t at.step (fault_at p))) ⊎ (9 < call_cause g)) (λ g x. inl (ap OffPages (step_off-one s t u _ g here x))))
+
+    moved_outcome : standing s.engine t u sc at ≡ Ready → (to : Stand) → next ar sc s.pages at ≡ Some (moved to) → Outcome ar (turn t u) s (record s { engine = shadow_moves s.engine t u sc at to }, Ok (Took Moved))
+    moved_outcome ready to h =
+        let f = found Ready ready in
+        inl (
+          turn_left (λ g. ⊥) (λ g x. let m : Some (moved to) ≡ Some (off_pages x.page) = sym h ∙ (off_there g x).1 in let no : ◌≡◌ {A = ℕ} 0 1 = cc in omega arith),
+          record {
+            script = sc;
+            at = at;
+            runs = script;
+            stands = stands;
+            ended = λ z. let q = finds-one s.engine t u sc at Ready AtEnd f z in let no : ◌≡◌ {A = ℕ} 0 1 = cc in absurd (omega arith);
+            waiting = λ z. let q = finds-one s.engine t u sc at Ready Halted f z in let no : ◌≡◌ {A = ℕ} 0 1 = cc in absurd (omega arith);
+            moves = λ z. (to, h, moves_so ar s o t u sc at to script stands h, refl, refl);
+          },
+        )
+
+  turn_outcome : (t u : ℕ) → Outcome ar (turn t u) s (turns ar s t u)
+  turn_outcome t u =
+      turns-opened s (Outcome ar (turn t u) s) ar t u
+      (λ l. no_slot (turn t u) t (inl (l, refl)))
+      (λ l k. no_slot (turn t u) u (inr (l, inl (k, refl))))
+      (λ l k h. declined (turn t u) (NotOpen t) ((refl, ap is_some h), λ g z. turn_fits s (λ g. (g ≡ NotOpen t) ⊎ (7 < call_cause g)) t u (λ n x. absurd (both_in s t u n l k x)) (λ _. inl refl) (λ _. inr (omega arith)) (λ f _. inr (omega arith)) g z))
+      (λ l k sc script h. declined (turn t u) (NoShadow u) ((t, refl, h), λ g z. turn_fits s (λ g. (g ≡ NoShadow u) ⊎ (8 < call_cause g)) t u (λ n x. absurd (both_in s t u n l k x)) (λ x. absurd (both_ways (is_open s.engine t) x (ap is_some script))) (λ _. inl refl) (λ f _. inr (omega arith)) g z))
+      (λ l k sc script at h. turn-found s (Outcome ar (turn t u) s) ar t u sc at
+      (λ e. still_outcome t u l k sc at script h AtEnd (s, Ok (Took Ended)) e (λ q. let no : ◌≡◌ {A = ℕ} 0 1 = cc in omega arith) (λ q. refl) (λ q. let no : ◌≡◌ {A = ℕ} 0 1 = cc in absurd (omega arith)))
+      (λ e. still_outcome t u l k sc at script h Halted (s, Ok (Took Waiting)) e (λ q. let no : ◌≡◌ {A = ℕ} 0 1 = cc in omega arith) (λ q. let no : ◌≡◌ {A = ℕ} 0 1 = cc in absurd (omega arith)) (λ q. refl))
+      (λ ready q. has_step t u l k sc at script h ready q)
+      (off_outcome t u l k sc at script h)
+      (moved_outcome t u l k sc at script h))
+
+  -- a commit of a slot whose leading shadow is at its end
+  commit_left : (t : ℕ) → t < 8 → (sc : Steps) (lead : Stand) → script_of s.engine t ≡ Some sc → shadow s.engine t t ≡ Some lead → length sc ≤ lead.step → (P : CallFault → Type 0) → ((f : StoreFault) → ListOff s t f → P (Unwritable t f)) → (g : CallFault) → Fits (made (commit t)) s g → P g
+  commit_left t l sc lead script leads far P f g z = commit_fits s P t (λ n q. absurd (one_in s t n l q)) (λ q. absurd (both_ways (is_open s.engine t) q (ap is_some script))) (λ n b. not_early n b) f g z
+    where
+      not_early : {A : Type 0} (n : ℕ) → BeforeEnd s t n → A
+      not_early n b =
+          let scripts : Some b.script ≡ Some sc = sym b.runs ∙ script in
+          let stands : Some b.lead ≡ Some lead = sym b.leads ∙ leads in
+          let same : b.script ≡ sc = cc in
+          let same_at : b.lead ≡ lead = cc in
+          let before : lead.step < length sc = subst (λ z. lead.step < length z) same (subst (λ z. z.step < length b.script) same_at b.before) in
+          absurd (omega arith)
+
+  commit_outcome : (t : ℕ) → Outcome ar (commit t) s (commits s t)
+  commit_outcome t =
+      commits-opened s (Outcome ar (commit t) s) t
+      (λ l. no_slot (commit t) t (inl (l, refl)))
+      (λ l h. shut l (ap is_some h))
+      (λ l sc script none_leads. absurd (true≢false (sym (o.led t (ap is_some script)) ∙ ap is_some none_leads)))
+      (λ l sc script lead leads early.
+      let here : BeforeEnd s t lead.step = record { script = sc; lead = lead; runs = script; leads = leads; before = early; told = refl } in
+      declined (commit t) (NotEnded lead.step) ((t, refl, here), λ g z. commit_fits s (λ g. (g ≡ NotEnded lead.step) ⊎ (10 < call_cause g)) t (λ n q. absurd (one_in s t n l q)) (λ q. absurd (both_ways (is_open s.engine t) q (ap is_some script))) (λ n b. inl (ap NotEnded (before_end-one s t lead.step n here b))) (λ f _. inr (omega arith)) g z))
+      (λ l sc script lead leads far p h.
+      let here : ListOff s t (fault_at p) = record { lead = lead; page = p; leads = leads; off = off_first (length s.pages) lead.own p h; told = refl } in
+      declined (commit t) (Unwritable t (fault_at p)) ((refl, here), commit_left t l sc lead script leads far (λ g. (g ≡ Unwritable t (fault_at p)) ⊎ (11 < call_cause g)) (λ f z. inl (ap (Unwritable t) (list_off-one s t (fault_at p) f here z)))))
+      (λ l sc script lead leads far h. inl (
+        commit_left t l sc lead script leads far (λ g. ⊥) (λ f z.
+        let stands : Some z.lead ≡ Some lead = sym z.leads ∙ leads in
+        let same : z.lead ≡ lead = cc in
+        none_off (length s.pages) lead.own z.page h (subst (λ y. FirstNotBelow (length s.pages) (map (λ w. w.page) y.own) z.page) same z.off)),
+        (lead, leads, commits_so s.engine o t l lead.own, refl, refl),
+      ))
+    where
+      shut : t < 8 → is_open s.engine t ≡ false → Outcome ar (commit t) s (s, Err (NotOpen t))
+      shut l h = declined (commit t) (NotOpen t) ((refl, h), λ g z. commit_fits s (λ g. (g ≡ NotOpen t) ⊎ (7 < call_cause g)) t (λ n q. absurd (one_in s t n l q)) (λ _. inl refl) (λ n _. inr (omega arith)) (λ f _. inr (omega arith)) g z)
+
   abort_outcome : (t : ℕ) → Outcome ar (abort t) s (aborts s t)
   abort_outcome t =
-      by_range (Outcome ar (abort t) s) t _
-      (λ l. inr (NoSlot t, slot_least s (made (abort t)) t (inl (l, refl)), refl))
-      (λ l. by l (script_of s.engine t) refl)
-    where
-      by : t < 8 → (x : Option Steps) → script_of s.engine t ≡ x → Outcome ar (abort t) s (abort_open s t x)
-      by l None h = inr (NotOpen t, ((refl, ap is_some h), λ g z. abort_fits s (λ g. (g ≡ NotOpen t) ⊎ (7 < call_cause g)) t (λ n q. absurd (one_in s t n l q)) (λ _. inl refl) g z), refl)
-      by l (Some sc) h = inl (
-        λ g z. abort_fits s (λ g. ⊥) t (λ n q. one_in s t n l q) (λ q. both_ways (is_open s.engine t) q (ap is_some h)) g z,
-        (aborts_so s.engine o t l, refl, refl),
-      )
+      aborts-opened s (Outcome ar (abort t) s) t
+      (λ l. no_slot (abort t) t (inl (l, refl)))
+      (λ l h. declined (abort t) (NotOpen t) ((refl, h), λ g z. abort_fits s (λ g. (g ≡ NotOpen t) ⊎ (7 < call_cause g)) t (λ n q. absurd (one_in s t n l q)) (λ _. inl refl) g z))
+      (λ l h. inl (λ g z. abort_fits s (λ g. ⊥) t (λ n q. one_in s t n l q) (λ q. both_ways (is_open s.engine t) q h) g z, (aborts_so s.engine o t l, refl, refl)))
 
   pub outcome : (c : Call) → Outcome ar c s (does ar c s)
   outcome (set_allowance k) = allow_outcome k

@@ -10,8 +10,9 @@ use Rattle.serial.specs.declared.fault.Standing.TheVariants.{AtEnd, Halted, Read
 use Rattle.serial.specs.Machine.{Meaning, Steps, Stand, start, Taken, moved, off_pages, has_read_any}
 use Rattle.serial.specs.Alone.{next}
 use Rattle.serial.specs.Laws.{Leads, here}
-use Rattle.serial.specs.Rules.{Row, Engine, State, Done, no_shadows, fresh, fresh_engine, script_of, is_open, row, shadow, with_shadow, own_of, lead_writes, count, waits, standing, in_range, first_open, allow_closed, allows, begun, begin_with, begins, lead_moves, turn_step, turn_standing, turn_shadow, turn_open, turns, first_off, commit_puts, commit_open, commits, abort_open, aborts, Call, set_allowance, begin, turn, commit, abort, does, after}
+use Rattle.serial.specs.Rules.{Row, Engine, State, Done, no_shadows, fresh, fresh_engine, script_of, is_open, row, shadow, with_shadow, own_of, lead_writes, count, waits, standing, first_open, begun, lead_moves, shadow_moves, Call, set_allowance, begin, turn, commit, abort, does, after}
 use Rattle.serial.proofs.Table.{none_is_some, none_is, Sized, row_put, row_put_other, shadow_put, shadow_put_place, shadow_put_row, sized_put, count_add, nothing_at}
+use Rattle.serial.proofs.Opened.{allows-opened, begins-opened, turns-opened, turn-found, commits-opened, aborts-opened}
 use Rattle.serial.proofs.Kept.{no_exempt, RowInv, Inv}
 use Rattle.serial.proofs.Turns.{lead_moves_inv, shadow_moves_inv}
 use Rattle.serial.proofs.Commits.{committed_inv, abort_is}
@@ -91,10 +92,6 @@ module _ (ar : Meaning) where
       rows_of : (t : ℕ) → t < 8 → length (row fresh_engine t) ≡ 8
       rows_of t l = long_at 8 t l
 
-  -- a test keeps the invariant where both its ways do
-  kept_range : (s : State) (t : ℕ) (rest : Done) → Good s → (t < 8 → Good rest.0) → Good (in_range s t rest).0
-  kept_range s t rest g h = cond_both (leb t 7) rest _ (λ d. Good d.0) (λ e. let l = leb-true t 7 e in h (omega arith)) (λ e. g)
-
   -- set allowance
   pub none_open : (n : ℕ) (scripts : List (Option Steps)) → first_open n scripts ≡ None → (t : ℕ) → get_or scripts t None ≡ None
   none_open n [] h t = refl
@@ -102,19 +99,12 @@ module _ (ar : Meaning) where
   none_open n (None ∷ xs) h (suc t) = none_open (suc n) xs h t
   none_open n (Some x ∷ xs) h t = none_is_some n (sym h)
 
-  allow_good : (s : State) (k : ℕ) → Good s → (1 ≤ k) × (k ≤ 8) → (o : Option ℕ) → first_open 0 s.engine.scripts ≡ o → Good (allow_closed s k o).0
-  allow_good s k g within (Some t) h = g
-  allow_good s k g within None h = record {
+  allowed_good : (s : State) (k : ℕ) → Good s → (1 ≤ k) × (k ≤ 8) → first_open 0 s.engine.scripts ≡ None → Good (record s { engine = record s.engine { allowance = k } })
+  allowed_good s k g within h = record {
     sized = record { scripts = g.sized.scripts; rows = g.sized.rows; places = g.sized.places };
     allowed = within;
-    rows = λ v. let none = none_open 0 s.engine.scripts h v in bare-row s.pages (record { allowance = k; scripts = s.engine.scripts; shadows = s.engine.shadows }) v none (λ u. (g.rows v).bare none u);
+    rows = λ v. let none_there = none_open 0 s.engine.scripts h v in bare-row s.pages (record s.engine { allowance = k }) v none_there (λ u. (g.rows v).bare none_there u);
   }
-
-  allows_good : (s : State) (k : ℕ) → Good s → Good (allows s k).0
-  allows_good s k g =
-      cond_both (leb 1 k && leb k 8) (allow_closed s k (first_open 0 s.engine.scripts)) _ (λ d. Good d.0)
-      (λ e. let a = and_parts (leb 1 k) (leb k 8) e in allow_good s k g (leb-true 1 k a.0, leb-true k 8 a.1) (first_open 0 s.engine.scripts) refl)
-      (λ e. g)
 
   -- begin
   module _ (pages : List ℕ) (e : Engine) (i : Inv ar pages no_exempt e) (t : ℕ) (t_in : t < 8) (free : script_of e t ≡ None) (sc : Steps) (ends : EndsAtEnd sc) where
@@ -173,22 +163,9 @@ module _ (ar : Meaning) where
       rows = λ v. ⊎_elim (λ (q : v ≡ t). subst (RowInv ar pages no_exempt (begun e t sc)) (sym q) begun-own) (λ (q : v ≡ t → ⊥). begun_other v q) (cases_eq v t);
     }
 
-  begin_good : (s : State) (t : ℕ) → Good s → t < 8 → script_of s.engine t ≡ None → (bytes : List ℕ) (r : Result Steps ScriptFault) → decoded bytes ≡ r → Good (begin_with s t r).0
-  begin_good s t g t_in free bytes (Err f) h = g
-  begin_good s t g t_in free bytes (Ok sc) h = begun_inv s.pages s.engine g t t_in free sc (subst (Decodes bytes) h (decodes bytes)).3
-
-  begins_good : (s : State) (t : ℕ) (bytes : List ℕ) → Good s → Good (begins s t bytes).0
-  begins_good s t bytes g =
-      kept_range s t _ g (λ t_in.
-      cond_both (is_open s.engine t) _ (begin_with s t (decoded bytes)) (λ d. Good d.0)
-      (λ e. g)
-      (λ e. begin_good s t g t_in (none_is (script_of s.engine t) e) bytes (decoded bytes) refl))
-
-  -- turn
-  turn_step_good : (s : State) (t u : ℕ) (sc : Steps) (at : Stand) → Good s → script_of s.engine t ≡ Some sc → shadow s.engine t u ≡ Some at → ((u ≡ t → ⊥) → waits s.engine t u sc at ≡ false) → (o : Option Taken) → next ar sc s.pages at ≡ o → Good (turn_step s t u sc at o).0
-  turn_step_good s t u sc at g script here_now free None h = g
-  turn_step_good s t u sc at g script here_now free (Some (off_pages p)) h = g
-  turn_step_good s t u sc at g script here_now free (Some (moved to)) h =
+  -- a turn that moves a shadow
+  turned_good : (s : State) (t u : ℕ) (sc : Steps) (at to : Stand) → Good s → script_of s.engine t ≡ Some sc → shadow s.engine t u ≡ Some at → ((u ≡ t → ⊥) → waits s.engine t u sc at ≡ false) → next ar sc s.pages at ≡ Some (moved to) → Good (record s { engine = shadow_moves s.engine t u sc at to })
+  turned_good s t u sc at to g script here_now free h =
       ⊎_elim
       (λ (q : eqb u t ≡ true).
       let same = eqb-true u t q in
@@ -205,50 +182,17 @@ module _ (ar : Meaning) where
   ready_free e t u sc at h ne =
       not_halted (waits e t u sc at) (sym (cond-false (eqb u t) (cond (leb (length sc) at.step) AtEnd Ready) (cond (waits e t u sc at) Halted Ready) (ne_eqb u t ne)) ∙ h)
 
-  turn_standing_good : (s : State) (t u : ℕ) (sc : Steps) (at : Stand) → Good s → script_of s.engine t ≡ Some sc → shadow s.engine t u ≡ Some at → (o : Standing) → standing s.engine t u sc at ≡ o → Good (turn_standing ar s t u sc at o).0
-  turn_standing_good s t u sc at g script here_now AtEnd h = g
-  turn_standing_good s t u sc at g script here_now Halted h = g
-  turn_standing_good s t u sc at g script here_now Ready h = turn_step_good s t u sc at g script here_now (ready_free s.engine t u sc at h) (next ar sc s.pages at) refl
-
-  turn_shadow_good : (s : State) (t u : ℕ) (sc : Steps) → Good s → script_of s.engine t ≡ Some sc → (o : Option Stand) → shadow s.engine t u ≡ o → Good (turn_shadow ar s t u sc o).0
-  turn_shadow_good s t u sc g script None h = g
-  turn_shadow_good s t u sc g script (Some at) h = turn_standing_good s t u sc at g script h (standing s.engine t u sc at) refl
-
-  turn_open_good : (s : State) (t u : ℕ) → Good s → (o : Option Steps) → script_of s.engine t ≡ o → Good (turn_open ar s t u o).0
-  turn_open_good s t u g None h = g
-  turn_open_good s t u g (Some sc) h = turn_shadow_good s t u sc g h (shadow s.engine t u) refl
-
-  turns_good : (s : State) (t u : ℕ) → Good s → Good (turns ar s t u).0
-  turns_good s t u g = kept_range s t _ g (λ _. kept_range s u _ g (λ _. turn_open_good s t u g (script_of s.engine t) refl))
-
-  -- commit
-  commit_puts_good : (s : State) (t : ℕ) (lead : Stand) → Good s → t < 8 → (o : Option ℕ) → Good (commit_puts s t lead o).0
-  commit_puts_good s t lead g t_in (Some p) = g
-  commit_puts_good s t lead g t_in None = committed_inv ar s.pages s.engine g t t_in lead.own
-
-  commit_open_good : (s : State) (t : ℕ) → Good s → t < 8 → (o : Option Steps) → Good (commit_open s t o).0
-  commit_open_good s t g t_in None = g
-  commit_open_good s t g t_in (Some sc) =
-      let lead = unwrap_or (shadow s.engine t t) start in
-      cond_both {A = Done} (leb (length sc) lead.step) _ _ (λ d. Good d.0) (λ e. commit_puts_good s t lead g t_in (first_off (length s.pages) lead.own)) (λ e. g)
-
-  commits_good : (s : State) (t : ℕ) → Good s → Good (commits s t).0
-  commits_good s t g = kept_range s t _ g (λ t_in. commit_open_good s t g t_in (script_of s.engine t))
-
-  -- abort
-  abort_open_good : (s : State) (t : ℕ) → Good s → t < 8 → (o : Option Steps) → Good (abort_open s t o).0
-  abort_open_good s t g t_in None = g
-  abort_open_good s t g t_in (Some sc) = subst (Inv ar s.pages no_exempt) (abort_is s.engine t) (committed_inv ar s.pages s.engine g t t_in [])
-
-  aborts_good : (s : State) (t : ℕ) → Good s → Good (aborts s t).0
-  aborts_good s t g = kept_range s t _ g (λ t_in. abort_open_good s t g t_in (script_of s.engine t))
-
   pub does_good : (c : Call) (s : State) → Good s → Good (does ar c s).0
-  does_good (set_allowance k) s g = allows_good s k g
-  does_good (begin t bytes) s g = begins_good s t bytes g
-  does_good (turn t u) s g = turns_good s t u g
-  does_good (commit t) s g = commits_good s t g
-  does_good (abort t) s g = aborts_good s t g
+  does_good (set_allowance k) s g = allows-opened s (λ d. Good d.0) k (λ _. g) (λ _ _ _ _. g) (λ low high h. allowed_good s k g (low, high) h)
+  does_good (begin t bytes) s g = begins-opened s (λ d. Good d.0) t bytes (λ _. g) (λ _ _. g) (λ _ _ _ _. g)
+      (λ t_in free sc h. begun_inv s.pages s.engine g t t_in (none_is (script_of s.engine t) free) sc (subst (Decodes bytes) h (decodes bytes)).3)
+  does_good (turn t u) s g = turns-opened s (λ d. Good d.0) ar t u (λ _. g) (λ _ _. g) (λ _ _ _. g) (λ _ _ _ _ _. g)
+      (λ _ _ sc script at h. turn-found s (λ d. Good d.0) ar t u sc at (λ _. g) (λ _. g) (λ _ _. g) (λ _ _ _. g)
+      (λ ready to step. turned_good s t u sc at to g script h (ready_free s.engine t u sc at ready) step))
+  does_good (commit t) s g = commits-opened s (λ d. Good d.0) t (λ _. g) (λ _ _. g) (λ _ _ _ _. g) (λ _ _ _ _ _ _. g) (λ _ _ _ _ _ _ _ _. g)
+      (λ t_in _ _ lead _ _ _. committed_inv ar s.pages s.engine g t t_in lead.own)
+  does_good (abort t) s g = aborts-opened s (λ d. Good d.0) t (λ _. g) (λ _ _. g)
+      (λ t_in _. subst (Inv ar s.pages no_exempt) (abort_is s.engine t) (committed_inv ar s.pages s.engine g t t_in []))
 
   pub after_good : (cs : List Call) (s : State) → Good s → Good (after ar cs s)
   after_good [] s g = g

@@ -1,4 +1,5 @@
 pub mod Table
+pub mod Opened
 pub mod Steps
 pub mod Runs
 pub mod Conflicts

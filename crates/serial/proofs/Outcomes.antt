@@ -1,62 +1,90 @@
--- What each call comes to, by the check that decides it. Assumes nothing.
-use Rattle.std.proofs.Common.{◌≡◌, ℕ, ◌<◌, ◌≤◌, Bool, true, false, cond, ◌&&◌, eqb, leb, List, length, is_some, Some, Option, Result, unwrap_or, sym, refl, ap, ◌∙◌, ⊎_elim, arith}
-use Rattle.std.proofs.lemmas.Bool.{cases_eq, cond-true, cond-false, and_from, or_parts, le-leb, lt-leb, leb-false, eq-eqb, ne_eqb}
+-- What a call comes to where its checks are known to pass, as an equation. Assumes nothing.
+use Rattle.std.proofs.Common.{◌≡◌, ℕ, ◌<◌, ◌≤◌, Bool, true, false, cond, not, ◌&&◌, eqb, leb, List, length, is_some, Some, Ok, Option, Result, sym, refl, ap, ◌∙◌, ⊎_elim, arith}
+use Rattle.std.proofs.lemmas.Bool.{cases_eq, cond-true, cond-false, and_from, or_parts, le-leb, leb-false, not_from_false, eq-eqb, ne_eqb}
+use Rattle.pages.specs.Pages.{fault_at}
 use Rattle.script.specs.Script.{decoded}
+use Rattle.script.specs.declared.Register.TheVariants.{R0}
 use Rattle.script.specs.declared.ScriptFault.{ScriptFault}
-use Rattle.serial.specs.declared.fault.CallFault.TheVariants.{NoSlot, BadAllowance, AlreadyOpen, NotEnded}
+use Rattle.serial.specs.declared.fault.CallFault.TheVariants.{NoSlot, BadAllowance, SlotsOpen, AlreadyOpen, Undecoded, NotOpen, NoShadow, NotEnded, Unwritable}
 use Rattle.serial.specs.declared.fault.Standing.{Standing}
 use Rattle.serial.specs.declared.fault.Standing.TheVariants.{AtEnd, Halted, Ready}
-use Rattle.serial.specs.Machine.{Meaning, Steps, Stand, start, Taken}
-use Rattle.serial.specs.Alone.{next}
-use Rattle.serial.specs.Rules.{Engine, State, Done, script_of, is_open, shadow, place_of, waits, standing, decline, in_range, first_open, allow_closed, allows, begin_with, begins, turn_step, turn_standing, turn_shadow, turn_open, turns, first_off, commit_puts, commit_lead, commit_open, commits, abort_open, aborts}
+use Rattle.serial.specs.declared.fault.Accepted.{Accepted}
+use Rattle.serial.specs.declared.fault.Accepted.TheVariants.{Allowed, Begun, Committed, Aborted}
+use Rattle.serial.specs.Machine.{Meaning, Steps, Stand, holds, Taken}
+use Rattle.serial.specs.Alone.{next, put_all}
+use Rattle.serial.specs.Rules.{Engine, State, Checked, ◌>>=◌, ◌>>◌, check◌else◌, some◌else◌, none◌else◌, ok◌else◌, called, script_of, is_open, shadow, place_of, waits, standing, first_open, allows, begun, begins, tries, turns_at, turns, closed, committed, first_off, commits, aborts}
 use Rattle.serial.specs.Sound.{SoundEngine}
 use Rattle.serial.proofs.Table.{some_is}
 use Rattle.serial.proofs.Calls.{not_halted}
 use Rattle.serial.proofs.Sound.{ok_from}
 
 module _ (s : State) where
-  pub out_of_range : (t : ℕ) (rest : Done) → 7 < t → in_range s t rest ≡ decline s (NoSlot t)
-  out_of_range t rest l = cond-false (leb t 7) rest (decline s (NoSlot t)) (lt-leb t 7 l)
+  -- a check that passes
+  passed : (b : Bool) (rest : Bool → Checked (State × Accepted)) → b ≡ true → called s (rest b) ≡ called s (rest true)
+  passed b rest h = ap (λ x. called s (rest x)) h
 
-  pub within_range : (t : ℕ) (rest : Done) → t ≤ 7 → in_range s t rest ≡ rest
-  within_range t rest l = cond-true (leb t 7) rest (decline s (NoSlot t)) (le-leb t 7 l)
+  slot_passed : (t : ℕ) (rest : Checked (State × Accepted)) → t ≤ 7 → called s ((check (leb t 7) else NoSlot t) >> rest) ≡ called s rest
+  slot_passed t rest l = passed (leb t 7) (λ x. (check x else NoSlot t) >> rest) (le-leb t 7 l)
 
   -- set allowance
-  pub allow_by : (k : ℕ) (o : Option ℕ) → 1 ≤ k → k ≤ 8 → first_open 0 s.engine.scripts ≡ o → allows s k ≡ allow_closed s k o
-  allow_by k o a b h = cond-true (leb 1 k && leb k 8) _ (decline s (BadAllowance k)) (and_from (leb 1 k) (leb k 8) (le-leb 1 k a) (le-leb k 8 b)) ∙ ap (allow_closed s k) h
+  abbrev allowed : ℕ → Checked (State × Accepted)
+  allowed k = Ok (record s { engine = record s.engine { allowance = k } }, Allowed)
+
+  pub allow_by : (k : ℕ) (o : Option ℕ) → 1 ≤ k → k ≤ 8 → first_open 0 s.engine.scripts ≡ o → allows s k ≡ called s ((none o else SlotsOpen) >> allowed k)
+  allow_by k o a b h =
+      passed (leb 1 k && leb k 8) (λ x. (check x else BadAllowance k) >> ((none (first_open 0 s.engine.scripts) else SlotsOpen) >> allowed k)) (and_from (leb 1 k) (leb k 8) (le-leb 1 k a) (le-leb k 8 b))
+      ∙ ap (λ x. called s ((none x else SlotsOpen) >> allowed k)) h
 
   -- begin
-  pub begin_by : (t : ℕ) (bytes : List ℕ) (r : Result Steps ScriptFault) → t ≤ 7 → is_open s.engine t ≡ false → decoded bytes ≡ r → begins s t bytes ≡ begin_with s t r
-  begin_by t bytes r l h d = within_range t _ l ∙ cond-false (is_open s.engine t) (decline s (AlreadyOpen t)) (begin_with s t (decoded bytes)) h ∙ ap (begin_with s t) d
+  abbrev opened : ℕ → Steps → Checked (State × Accepted)
+  opened t sc = Ok (record s { engine = begun s.engine t sc }, Begun)
+
+  pub begin_by : (t : ℕ) (bytes : List ℕ) (r : Result Steps ScriptFault) → t ≤ 7 → is_open s.engine t ≡ false → decoded bytes ≡ r → begins s t bytes ≡ called s ((ok r else Undecoded) >>= opened t)
+  begin_by t bytes r l h d =
+      slot_passed t ((check (not (is_open s.engine t)) else AlreadyOpen t) >> ((ok (decoded bytes) else Undecoded) >>= opened t)) l
+      ∙ passed (not (is_open s.engine t)) (λ x. (check x else AlreadyOpen t) >> ((ok (decoded bytes) else Undecoded) >>= opened t)) (not_from_false (is_open s.engine t) h)
+      ∙ ap (λ x. called s ((ok x else Undecoded) >>= opened t)) d
 
   -- turn
   module _ (ar : Meaning) (t u : ℕ) where
-    pub turn_by : (o : Option Steps) → t ≤ 7 → u ≤ 7 → script_of s.engine t ≡ o → turns ar s t u ≡ turn_open ar s t u o
-    turn_by o l k h = within_range t _ l ∙ within_range u _ k ∙ ap (turn_open ar s t u) h
+    abbrev found : Steps → Stand → Checked (State × Accepted)
+    found sc at = turns_at ar s t u sc at (standing s.engine t u sc at)
 
-    pub turn_by_shadow : (sc : Steps) (o : Option Stand) → t ≤ 7 → u ≤ 7 → script_of s.engine t ≡ Some sc → shadow s.engine t u ≡ o → turns ar s t u ≡ turn_shadow ar s t u sc o
-    turn_by_shadow sc o l k h q = turn_by (Some sc) l k h ∙ ap (turn_shadow ar s t u sc) q
+    abbrev of_shadow : Steps → Option Stand → Checked (State × Accepted)
+    of_shadow sc o = (some o else NoShadow u) >>= found sc
 
-    pub turn_by_standing : (sc : Steps) (at : Stand) (x : Standing) → t ≤ 7 → u ≤ 7 → script_of s.engine t ≡ Some sc → shadow s.engine t u ≡ Some at → standing s.engine t u sc at ≡ x → turns ar s t u ≡ turn_standing ar s t u sc at x
-    turn_by_standing sc at x l k h q w = turn_by_shadow sc (Some at) l k h q ∙ ap (turn_standing ar s t u sc at) w
-
-    pub turn_by_step : (sc : Steps) (at : Stand) (x : Option Taken) → t ≤ 7 → u ≤ 7 → script_of s.engine t ≡ Some sc → shadow s.engine t u ≡ Some at → standing s.engine t u sc at ≡ Ready → next ar sc s.pages at ≡ x → turns ar s t u ≡ turn_step s t u sc at x
-    turn_by_step sc at x l k h q w n = turn_by_standing sc at Ready l k h q w ∙ ap (turn_step s t u sc at) n
+    pub turn_by_step : (sc : Steps) (at : Stand) (x : Option Taken) → t ≤ 7 → u ≤ 7 → script_of s.engine t ≡ Some sc → shadow s.engine t u ≡ Some at → standing s.engine t u sc at ≡ Ready → next ar sc s.pages at ≡ x → turns ar s t u ≡ called s (tries s t u sc at x)
+    turn_by_step sc at x l k h q w n =
+        slot_passed t ((check (leb u 7) else NoSlot u) >> ((some (script_of s.engine t) else NotOpen t) >>= λ y. of_shadow y (shadow s.engine t u))) l
+        ∙ slot_passed u ((some (script_of s.engine t) else NotOpen t) >>= λ y. of_shadow y (shadow s.engine t u)) k
+        ∙ ap (λ o. called s ((some o else NotOpen t) >>= λ y. of_shadow y (shadow s.engine t u))) h
+        ∙ ap (λ o. called s (of_shadow sc o)) q
+        ∙ ap (λ z. called s (turns_at ar s t u sc at z)) w
+        ∙ ap (λ z. called s (tries s t u sc at z)) n
 
   -- commit
   module _ (t : ℕ) where
-    pub commit_by : (o : Option Steps) → t ≤ 7 → script_of s.engine t ≡ o → commits s t ≡ commit_open s t o
-    commit_by o l h = within_range t _ l ∙ ap (commit_open s t) h
+    abbrev put : Stand → Option ℕ → Checked (State × Accepted)
+    put lead o =
+        (none o else λ p. Unwritable t (fault_at p))
+        >> Ok (record { engine = committed s.engine t lead.own; pages = put_all lead.own s.pages }, Committed (holds lead R0) (length lead.own))
 
-    pub commit_by_lead : (sc : Steps) (lead : Stand) → t ≤ 7 → script_of s.engine t ≡ Some sc → unwrap_or (shadow s.engine t t) start ≡ lead → commits s t ≡ commit_lead s t sc lead
-    commit_by_lead sc lead l h q = commit_by (Some sc) l h ∙ ap (commit_lead s t sc) q
+    abbrev of_lead : Steps → Stand → Checked (State × Accepted)
+    of_lead sc lead = (check (leb (length sc) lead.step) else NotEnded lead.step) >> put lead (first_off (length s.pages) lead.own)
 
-    pub commit_by_puts : (sc : Steps) (lead : Stand) (o : Option ℕ) → t ≤ 7 → script_of s.engine t ≡ Some sc → unwrap_or (shadow s.engine t t) start ≡ lead → length sc ≤ lead.step → first_off (length s.pages) lead.own ≡ o → commits s t ≡ commit_puts s t lead o
-    commit_by_puts sc lead o l h q k f = commit_by_lead sc lead l h q ∙ cond-true (leb (length sc) lead.step) _ (decline s (NotEnded lead.step)) (le-leb (length sc) lead.step k) ∙ ap (commit_puts s t lead) f
+    pub commit_by_puts : (sc : Steps) (lead : Stand) (o : Option ℕ) → t ≤ 7 → script_of s.engine t ≡ Some sc → shadow s.engine t t ≡ Some lead → length sc ≤ lead.step → first_off (length s.pages) lead.own ≡ o → commits s t ≡ called s (put lead o)
+    commit_by_puts sc lead o l h q k f =
+        slot_passed t ((some (script_of s.engine t) else NotOpen t) >>= λ y. (some (shadow s.engine t t) else NotOpen t) >>= of_lead y) l
+        ∙ ap (λ x. called s ((some x else NotOpen t) >>= λ y. (some (shadow s.engine t t) else NotOpen t) >>= of_lead y)) h
+        ∙ ap (λ x. called s ((some x else NotOpen t) >>= of_lead sc)) q
+        ∙ passed (leb (length sc) lead.step) (λ x. (check x else NotEnded lead.step) >> put lead (first_off (length s.pages) lead.own)) (le-leb (length sc) lead.step k)
+        ∙ ap (λ x. called s (put lead x)) f
 
     -- abort
-    pub abort_by : (o : Option Steps) → t ≤ 7 → script_of s.engine t ≡ o → aborts s t ≡ abort_open s t o
-    abort_by o l h = within_range t _ l ∙ ap (abort_open s t) h
+    pub abort_by : t ≤ 7 → is_open s.engine t ≡ true → aborts s t ≡ (record s { engine = closed s.engine t s.engine.shadows }, Ok Aborted)
+    abort_by l h =
+        slot_passed t ((check (is_open s.engine t) else NotOpen t) >> Ok (record s { engine = closed s.engine t s.engine.shadows }, Aborted)) l
+        ∙ passed (is_open s.engine t) (λ x. (check x else NotOpen t) >> Ok (record s { engine = closed s.engine t s.engine.shadows }, Aborted)) h
 
 -- a shadow that is able to try a step is before its script's end, in every engine
 pub ready_before_end : (e : Engine) → SoundEngine e → (t u : ℕ) (sc : Steps) (at : Stand) → script_of e t ≡ Some sc → shadow e t u ≡ Some at → standing e t u sc at ≡ Ready → at.step < length sc

@@ -17,9 +17,10 @@ use Rattle.serial.specs.declared.fault.Standing.TheVariants.{AtEnd, Halted, Read
 use Rattle.serial.specs.Machine.{Meaning, Steps, Stand, start, has_read_any, written, write, Effect, reading, writing, setting, leaving, effect, with_register, recorded, with_write, Taken, moved, off_pages, take_read, take_effect, store_read, write_of}
 use Rattle.serial.specs.Alone.{next}
 use Rattle.serial.specs.Laws.{Next}
-use Rattle.serial.specs.Rules.{Engine, State, Done, slots, fresh_engine, script_of, is_open, row, shadow, with_shadow, clean, furthest_of, any_shadow, count, has_room, account, read_conflict, account_read, account_reads, write_conflict, account_write, account_writes, before_step, after_step, lead_moves, shadow_moves, standing, in_range, first_open, allow_closed, begun, begin_with, turn_step, turn_standing, turn_shadow, turn_open, remaining, kept, committed, first_off, commit_puts, commit_open, abort_open, Call, set_allowance, begin, turn, commit, abort, does}
+use Rattle.serial.specs.Rules.{Engine, State, Done, slots, fresh_engine, script_of, is_open, row, shadow, with_shadow, clean, furthest_of, any_shadow, count, has_room, account, read_conflict, account_read, account_reads, write_conflict, account_write, account_writes, before_step, after_step, lead_moves, shadow_moves, first_open, begun, remaining, kept, committed, Call, set_allowance, begin, turn, commit, abort, does}
 use Rattle.serial.specs.Sound.{ends_within, script_fits, stands_once, shadow_fits, SoundEngine}
 use Rattle.serial.specs.OneStep.{HasFour, Once, ShadowsStandSo}
+use Rattle.serial.proofs.Opened.{allows-opened, begins-opened, turns-opened, turn-found, commits-opened, aborts-opened}
 use Rattle.serial.proofs.Steps.{noted, off_moved}
 use Rattle.serial.proofs.Runs.{stepped, next-ends}
 use Rattle.serial.proofs.Table.{none_is_some, some_is, none_is, some_or_none, Sized, shadow-within, row_put, row_put_other, shadow_put, shadow_put_place, shadow_put_row, sized_put, nothing_at, count_set, count_add, kept_was, furthest_of_among}
@@ -434,12 +435,8 @@ module _ (ar : Meaning) where
   abbrev Keeps : Done → Type 0
   Keeps d = Holds d.0.engine
 
-  range_keeps : (s : State) (t : ℕ) (rest : Done) → Holds s.engine → (t < 8 → Keeps rest) → Keeps (in_range s t rest)
-  range_keeps s t rest o h = cond_both (leb t 7) rest _ Keeps (λ e. let l = leb-true t 7 e in h (omega arith)) (λ e. o)
-
-  allow_keeps : (s : State) (k : ℕ) → Holds s.engine → (1 ≤ k) × (k ≤ 8) → (x : Option ℕ) → first_open 0 s.engine.scripts ≡ x → Keeps (allow_closed s k x)
-  allow_keeps s k o within (Some t) h = o
-  allow_keeps s k o within None h =
+  allowed_keeps : (s : State) (k : ℕ) → Holds s.engine → (1 ≤ k) × (k ≤ 8) → first_open 0 s.engine.scripts ≡ None → Holds (record s.engine { allowance = k })
+  allowed_keeps s k o within h =
       let closed_all : (t : ℕ) → is_open s.engine t ≡ false = λ t. ap is_some (none_open ar 0 s.engine.scripts h t) in
       record {
         sized = record { scripts = o.sized.scripts; rows = o.sized.rows; places = o.sized.places };
@@ -452,53 +449,20 @@ module _ (ar : Meaning) where
         shadows = o.shadows;
       }
 
-  begin-keeps : (s : State) (t : ℕ) (bytes : List ℕ) → Holds s.engine → t < 8 → is_open s.engine t ≡ false → (r : Result Steps ScriptFault) → decoded bytes ≡ r → Keeps (begin_with s t r)
-  begin-keeps s t bytes o t_in free (Err f) h = o
-  begin-keeps s t bytes o t_in free (Ok sc) h =
+  begun-keeps : (s : State) (t : ℕ) (bytes : List ℕ) → Holds s.engine → t < 8 → is_open s.engine t ≡ false → (sc : Steps) → decoded bytes ≡ Ok sc → Holds (begun s.engine t sc)
+  begun-keeps s t bytes o t_in free sc h =
       let d = subst (Decodes bytes) h (decodes bytes) in
       let few = (fit_facts bytes d.0).few in
       let long : length sc ≡ _ = d.1 in
       begun_ok s.engine o t t_in free sc (omega arith, d.3)
 
-  step_keeps : (s : State) (t u : ℕ) (sc : Steps) (at : Stand) → Holds s.engine → script_of s.engine t ≡ Some sc → shadow s.engine t u ≡ Some at → (x : Option Taken) → next ar sc s.pages at ≡ x → Keeps (turn_step s t u sc at x)
-  step_keeps s t u sc at o script here_now None h = o
-  step_keeps s t u sc at o script here_now (Some (off_pages p)) h = o
-  step_keeps s t u sc at o script here_now (Some (moved to)) h = moves-ok ar s.pages s.engine o t u sc at to script here_now h
-
-  standing-keeps : (s : State) (t u : ℕ) (sc : Steps) (at : Stand) → Holds s.engine → script_of s.engine t ≡ Some sc → shadow s.engine t u ≡ Some at → (x : Standing) → Keeps (turn_standing ar s t u sc at x)
-  standing-keeps s t u sc at o script here_now AtEnd = o
-  standing-keeps s t u sc at o script here_now Halted = o
-  standing-keeps s t u sc at o script here_now Ready = step_keeps s t u sc at o script here_now (next ar sc s.pages at) refl
-
-  shadow-keeps : (s : State) (t u : ℕ) (sc : Steps) → Holds s.engine → script_of s.engine t ≡ Some sc → (x : Option Stand) → shadow s.engine t u ≡ x → Keeps (turn_shadow ar s t u sc x)
-  shadow-keeps s t u sc o script None h = o
-  shadow-keeps s t u sc o script (Some at) h = standing-keeps s t u sc at o script h (standing s.engine t u sc at)
-
-  open_keeps : (s : State) (t u : ℕ) → Holds s.engine → (x : Option Steps) → script_of s.engine t ≡ x → Keeps (turn_open ar s t u x)
-  open_keeps s t u o None h = o
-  open_keeps s t u o (Some sc) h = shadow-keeps s t u sc o h (shadow s.engine t u) refl
-
-  puts_keep : (s : State) (t : ℕ) (lead : Stand) → Holds s.engine → t < 8 → (x : Option ℕ) → Keeps (commit_puts s t lead x)
-  puts_keep s t lead o t_in (Some p) = o
-  puts_keep s t lead o t_in None = committed-ok s.engine o t t_in lead.own
-
-  commit-keeps : (s : State) (t : ℕ) → Holds s.engine → t < 8 → (x : Option Steps) → Keeps (commit_open s t x)
-  commit-keeps s t o t_in None = o
-  commit-keeps s t o t_in (Some sc) =
-      let lead = unwrap_or (shadow s.engine t t) start in
-      cond_both {A = Done} (leb (length sc) lead.step) _ _ Keeps (λ e. puts_keep s t lead o t_in (first_off (length s.pages) lead.own)) (λ e. o)
-
-  abort-keeps : (s : State) (t : ℕ) → Holds s.engine → t < 8 → (x : Option Steps) → Keeps (abort_open s t x)
-  abort-keeps s t o t_in None = o
-  abort-keeps s t o t_in (Some sc) = subst Holds (abort_is s.engine t) (committed-ok s.engine o t t_in [])
-
   does-holds : (c : Call) (s : State) → Holds s.engine → Keeps (does ar c s)
-  does-holds (set_allowance k) s o =
-      cond_both {A = Done} (leb 1 k && leb k 8) _ _ Keeps (λ e. let a = and_parts (leb 1 k) (leb k 8) e in allow_keeps s k o (leb-true 1 k a.0, leb-true k 8 a.1) (first_open 0 s.engine.scripts) refl) (λ e. o)
-  does-holds (begin t bytes) s o = range_keeps s t _ o (λ t_in. cond_both {A = Done} (is_open s.engine t) _ _ Keeps (λ e. o) (λ e. begin-keeps s t bytes o t_in e (decoded bytes) refl))
-  does-holds (turn t u) s o = range_keeps s t _ o (λ _. range_keeps s u _ o (λ _. open_keeps s t u o (script_of s.engine t) refl))
-  does-holds (commit t) s o = range_keeps s t _ o (λ t_in. commit-keeps s t o t_in (script_of s.engine t))
-  does-holds (abort t) s o = range_keeps s t _ o (λ t_in. abort-keeps s t o t_in (script_of s.engine t))
+  does-holds (set_allowance k) s o = allows-opened s Keeps k (λ _. o) (λ _ _ _ _. o) (λ low high h. allowed_keeps s k o (low, high) h)
+  does-holds (begin t bytes) s o = begins-opened s Keeps t bytes (λ _. o) (λ _ _. o) (λ _ _ _ _. o) (λ t_in free sc h. begun-keeps s t bytes o t_in free sc h)
+  does-holds (turn t u) s o = turns-opened s Keeps ar t u (λ _. o) (λ _ _. o) (λ _ _ _. o) (λ _ _ _ _ _. o)
+      (λ _ _ sc script at h. turn-found s Keeps ar t u sc at (λ _. o) (λ _. o) (λ _ _. o) (λ _ _ _. o) (λ _ to step. moves-ok ar s.pages s.engine o t u sc at to script h step))
+  does-holds (commit t) s o = commits-opened s Keeps t (λ _. o) (λ _ _. o) (λ _ _ _ _. o) (λ _ _ _ _ _ _. o) (λ _ _ _ _ _ _ _ _. o) (λ t_in _ _ lead _ _ _. committed-ok s.engine o t t_in lead.own)
+  does-holds (abort t) s o = aborts-opened s Keeps t (λ _. o) (λ _ _. o) (λ t_in _. subst Holds (abort_is s.engine t) (committed-ok s.engine o t t_in []))
 
   pub does-sound : (c : Call) (s : State) → SoundEngine s.engine → SoundEngine (does ar c s).0.engine
   does-sound c s h = sound_from (does ar c s).0.engine (does-holds c s (ok_from s.engine h))

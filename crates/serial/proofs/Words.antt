@@ -3,16 +3,17 @@ use Rattle.std.proofs.Common.{◌≡◌, ℕ, zero, suc, ◌<◌, ◌≤◌, Boo
 use Rattle.std.specs.List.{slice_get}
 use Rattle.std.proofs.lemmas.Bool.{cases_Bool, cases_eq, cond-true, cond-false, cond_both, and_parts, or_cases, or_left, or_right, lt-ltb, or_from, le-ltb, eqb-true, eqb-false, eq-eqb, ne_eqb, le-leb, not-true, not-false, not_from_false, false_from_ne_true, true≢false}
 use Rattle.pages.specs.declared.WriteEntry.{WriteEntry}
-use Rattle.script.specs.Script.{decoded}
-use Rattle.script.specs.declared.ScriptFault.{ScriptFault}
+use Rattle.script.specs.declared.Register.TheVariants.{R0}
 use Rattle.serial.specs.declared.fault.CallFault.{CallFault}
-use Rattle.serial.specs.declared.fault.Standing.{Standing}
-use Rattle.serial.specs.declared.fault.Standing.TheVariants.{AtEnd, Halted, Ready}
-use Rattle.serial.specs.Machine.{Meaning, Steps, Stand, start, Taken, moved, off_pages, store_read, write_of, has_read, has_written, has_read_any}
+use Rattle.serial.specs.declared.fault.Turned.TheVariants.{Moved, Ended, Waiting}
+use Rattle.serial.specs.declared.fault.Accepted.{Accepted}
+use Rattle.serial.specs.declared.fault.Accepted.TheVariants.{Allowed, Begun, Took, Committed, Aborted}
+use Rattle.serial.specs.Machine.{Meaning, Steps, Stand, start, holds, moved, store_read, write_of, has_read, has_written, has_read_any}
 use Rattle.serial.specs.Alone.{next}
-use Rattle.serial.specs.Rules.{Row, Engine, State, Done, slots, script_of, is_open, row, shadow, with_shadow, reads_of, own_of, lead_writes, furthest_of, any_shadow, clean, count, has_room, account, read_conflict, account_read, account_reads, write_conflict, account_write, account_writes, before_step, after_step, lead_moves, shadow_moves, standing, in_range, first_open, allow_closed, begun, begin_with, turn_step, turn_standing, turn_shadow, turn_open, kept, remaining, closed, committed, first_off, commit_puts, commit_open, abort_open, Call, set_allowance, begin, turn, commit, abort, does}
+use Rattle.serial.specs.Rules.{Row, Engine, State, Done, slots, script_of, is_open, row, shadow, with_shadow, reads_of, own_of, lead_writes, furthest_of, any_shadow, clean, count, has_room, account, read_conflict, account_read, account_reads, write_conflict, account_write, account_writes, before_step, after_step, lead_moves, shadow_moves, begun, kept, remaining, closed, committed, Call, set_allowance, begin, turn, commit, abort, does}
 use Rattle.serial.specs.Sound.{SoundEngine}
 use Rattle.serial.specs.Words.{Furthest, FurthestOrStart, SetsShadow, AccountsFor, SlotBySlot, DueBeforeRead, DueAfterWrite, LeadMoves, ShadowMoves, Closes, unread, Commits, Aborts, Opens, AccountsInWords, AccountedFor, TurnsChangeOnly, DeclinedChangesNothing}
+use Rattle.serial.proofs.Opened.{allows-opened, begins-opened, turns-opened, turn-found, commits-opened, aborts-opened}
 use Rattle.serial.proofs.Table.{none_is_some, none_is, some_or_none, Sized, shadow-within, shadow_put, shadow_put_place, shadow_put_row, sized_put, count_set, kept_was, kept-unread}
 use Rattle.serial.proofs.Turns.{open_within, open_kept}
 use Rattle.serial.proofs.Commits.{none_of, none_for, others_kept, lead_stays, lead_renewed, lead_none, committed-sized, script-there, script_other, kept_nil, abort_is}
@@ -293,13 +294,6 @@ after-besides : (e : Engine) (t : ℕ) (wr : Option ℕ) → Holds e → is_open
 after-besides e t None o t_open v w d = refl
 after-besides e t (Some p) o t_open v w d = writes_besides slots e t p o t_open v w (λ q ne v_open read due. d q ne v_open (p, refl, read, due))
 
--- a turn comes to what its shadow's standing says
-turn_at : (ar : Meaning) (s : State) (t u : ℕ) (sc : Steps) (at : Stand) → t < 8 → u < 8 → script_of s.engine t ≡ Some sc → shadow s.engine t u ≡ Some at → does ar (turn t u) s ≡ turn_standing ar s t u sc at (standing s.engine t u sc at)
-turn_at ar s t u sc at t_in u_in script h =
-    cond-true (leb t 7) (in_range s u (turn_open ar s t u (script_of s.engine t))) _ (le-leb t 7 (omega arith))
-    ∙ cond-true (leb u 7) (turn_open ar s t u (script_of s.engine t)) _ (le-leb u 7 (omega arith))
-    ∙ ap (turn_open ar s t u) script ∙ ap (turn_shadow ar s t u sc) h
-
 -- a turn of a leading shadow changes only places that are accounted for
 leads_change : (ar : Meaning) (st : State) → Holds st.engine → (t : ℕ) (sc : Steps) (s to : Stand) → script_of st.engine t ≡ Some sc → shadow st.engine t t ≡ Some s → next ar sc st.pages s ≡ Some (moved to)
     → (v w : ℕ) → (v ≡ t → w ≢ t) → (AccountedFor st.engine t sc s v w → ⊥) → shadow (lead_moves st.engine t sc s to) v w ≡ shadow st.engine v w
@@ -334,79 +328,44 @@ leads_change ar st o t sc s to script lead step v w d free =
 pub turns_change_only : TurnsChangeOnly
 turns_change_only ar s t u sc at sound script h v w d free =
     let o = ok_from s.engine sound in
-    let in_both = shadow-within s.engine o.sized t u at h in
-    subst Same (sym (turn_at ar s t u sc at in_both.0 in_both.1 script h)) (by_standing o (standing s.engine t u sc at))
+    turns-opened s Same ar t u (λ _. refl) (λ _ _. refl) (λ _ _ _. refl) (λ _ _ _ _ _. refl)
+    (λ _ _ sc' script' at' h'. turn-found s Same ar t u sc' at' (λ _. refl) (λ _. refl) (λ _ _. refl) (λ _ _ _. refl)
+    (λ _ to step. went o sc' at' to script' h' step))
   where
     Same : Done → Type 0
     Same x = shadow x.0.engine v w ≡ shadow s.engine v w
 
-    by_step : Holds s.engine → (x : Option Taken) → next ar sc s.pages at ≡ x → Same (turn_step s t u sc at x)
-    by_step o None q = refl
-    by_step o (Some (off_pages p)) q = refl
-    by_step o (Some (moved to)) q =
-        cond_both (eqb u t) (lead_moves s.engine t sc at to) (with_shadow s.engine t u (Some to)) (λ z. shadow z v w ≡ shadow s.engine v w)
-        (λ k. let same = eqb-true u t k in leads_change ar s o t sc at to script (ap (shadow s.engine t) (sym same) ∙ h) q v w (λ a b. d a (b ∙ sym same)) (free same))
-        (λ k. let in_both = shadow-within s.engine o.sized t u at h in (places s.engine o.sized t u in_both.0 in_both.1 to).besides v w d)
-
-    by_standing : Holds s.engine → (x : Standing) → Same (turn_standing ar s t u sc at x)
-    by_standing o AtEnd = refl
-    by_standing o Halted = refl
-    by_standing o Ready = by_step o (next ar sc s.pages at) refl
+    went : Holds s.engine → (sc' : Steps) (at' to : Stand) → script_of s.engine t ≡ Some sc' → shadow s.engine t u ≡ Some at' → next ar sc' s.pages at' ≡ Some (moved to) → shadow (shadow_moves s.engine t u sc' at' to) v w ≡ shadow s.engine v w
+    went o sc' at' to script' h' step =
+        let scripts : Some sc ≡ Some sc' = sym script ∙ script' in
+        let ats : Some at ≡ Some at' = sym h ∙ h' in
+        let same_script : sc ≡ sc' = cc in
+        let same_at : at ≡ at' = cc in
+        cond_both (eqb u t) (lead_moves s.engine t sc' at' to) (with_shadow s.engine t u (Some to)) (λ z. shadow z v w ≡ shadow s.engine v w)
+        (λ k.
+        let same = eqb-true u t k in
+        leads_change ar s o t sc' at' to script' (ap (shadow s.engine t) (sym same) ∙ h') step v w (λ a b. d a (b ∙ sym same))
+        (subst (λ z. AccountedFor s.engine t sc' z v w → ⊥) same_at (subst (λ z. AccountedFor s.engine t z at v w → ⊥) same_script (free same))))
+        (λ k. let in_both = shadow-within s.engine o.sized t u at' h' in (places s.engine o.sized t u in_both.0 in_both.1 to).besides v w d)
 
 -- a declined call changes nothing
 module _ (ar : Meaning) (s : State) (f : CallFault) where
   abbrev Unchanged : Done → Type 0
   Unchanged d = d.1 ≡ Err f → d.0 ≡ s
 
-  range_unchanged : (t : ℕ) (rest : Done) → Unchanged rest → Unchanged (in_range s t rest)
-  range_unchanged t rest h = cond_both (leb t 7) rest _ Unchanged (λ e. h) (λ e q. refl)
+  refused : (g : CallFault) → Unchanged (s, Err g)
+  refused g e = refl
 
-  allow_unchanged : (k : ℕ) (o : Option ℕ) → Unchanged (allow_closed s k o)
-  allow_unchanged k (Some t) = λ e. refl
-  allow_unchanged k None = λ e. let z : ◌≡◌ {A = ℕ} 0 1 = cc in absurd (omega arith)
-
-  begin_unchanged : (t : ℕ) (r : Result Steps ScriptFault) → Unchanged (begin_with s t r)
-  begin_unchanged t (Err g) = λ e. refl
-  begin_unchanged t (Ok sc) = λ e. let z : ◌≡◌ {A = ℕ} 0 1 = cc in absurd (omega arith)
-
-  step_unchanged : (t u : ℕ) (sc : Steps) (at : Stand) (o : Option Taken) → Unchanged (turn_step s t u sc at o)
-  step_unchanged t u sc at None = λ e. refl
-  step_unchanged t u sc at (Some (off_pages p)) = λ e. refl
-  step_unchanged t u sc at (Some (moved to)) = λ e. let z : ◌≡◌ {A = ℕ} 0 1 = cc in absurd (omega arith)
-
-  standing_unchanged : (t u : ℕ) (sc : Steps) (at : Stand) (o : Standing) → Unchanged (turn_standing ar s t u sc at o)
-  standing_unchanged t u sc at AtEnd = λ e. refl
-  standing_unchanged t u sc at Halted = λ e. refl
-  standing_unchanged t u sc at Ready = step_unchanged t u sc at (next ar sc s.pages at)
-
-  shadow_unchanged : (t u : ℕ) (sc : Steps) (o : Option Stand) → Unchanged (turn_shadow ar s t u sc o)
-  shadow_unchanged t u sc None = λ e. refl
-  shadow_unchanged t u sc (Some at) = standing_unchanged t u sc at (standing s.engine t u sc at)
-
-  turn_unchanged : (t u : ℕ) (o : Option Steps) → Unchanged (turn_open ar s t u o)
-  turn_unchanged t u None = λ e. refl
-  turn_unchanged t u (Some sc) = shadow_unchanged t u sc (shadow s.engine t u)
-
-  puts_unchanged : (t : ℕ) (lead : Stand) (o : Option ℕ) → Unchanged (commit_puts s t lead o)
-  puts_unchanged t lead (Some p) = λ e. refl
-  puts_unchanged t lead None = λ e. let z : ◌≡◌ {A = ℕ} 0 1 = cc in absurd (omega arith)
-
-  commit_unchanged : (t : ℕ) (o : Option Steps) → Unchanged (commit_open s t o)
-  commit_unchanged t None = λ e. refl
-  commit_unchanged t (Some sc) =
-      let lead = unwrap_or (shadow s.engine t t) start in
-      cond_both {A = Done} (leb (length sc) lead.step) _ _ Unchanged (λ e. puts_unchanged t lead (first_off (length s.pages) lead.own)) (λ e q. refl)
-
-  abort_unchanged : (t : ℕ) (o : Option Steps) → Unchanged (abort_open s t o)
-  abort_unchanged t None = λ e. refl
-  abort_unchanged t (Some sc) = λ e. let z : ◌≡◌ {A = ℕ} 0 1 = cc in absurd (omega arith)
+  accepted : (x : State) (how : Accepted) → Unchanged (x, Ok how)
+  accepted x how e = let z : ◌≡◌ {A = ℕ} 0 1 = cc in absurd (omega arith)
 
   unchanged : (c : Call) → Unchanged (does ar c s)
-  unchanged (set_allowance k) = cond_both {A = Done} (leb 1 k && leb k 8) _ _ Unchanged (λ e. allow_unchanged k (first_open 0 s.engine.scripts)) (λ e q. refl)
-  unchanged (begin t bytes) = range_unchanged t _ (cond_both {A = Done} (is_open s.engine t) _ _ Unchanged (λ e q. refl) (λ e. begin_unchanged t (decoded bytes)))
-  unchanged (turn t u) = range_unchanged t _ (range_unchanged u _ (turn_unchanged t u (script_of s.engine t)))
-  unchanged (commit t) = range_unchanged t _ (commit_unchanged t (script_of s.engine t))
-  unchanged (abort t) = range_unchanged t _ (abort_unchanged t (script_of s.engine t))
+  unchanged (set_allowance k) = allows-opened s Unchanged k (λ _. refused _) (λ _ _ _ _. refused _) (λ _ _ _. accepted _ Allowed)
+  unchanged (begin t bytes) = begins-opened s Unchanged t bytes (λ _. refused _) (λ _ _. refused _) (λ _ _ _ _. refused _) (λ _ _ _ _. accepted _ Begun)
+  unchanged (turn t u) = turns-opened s Unchanged ar t u (λ _. refused _) (λ _ _. refused _) (λ _ _ _. refused _) (λ _ _ _ _ _. refused _)
+      (λ _ _ sc _ at _. turn-found s Unchanged ar t u sc at (λ _. accepted _ (Took Ended)) (λ _. accepted _ (Took Waiting)) (λ _ _. accepted _ (Took Ended)) (λ _ _ _. refused _) (λ _ to _. accepted _ (Took Moved)))
+  unchanged (commit t) = commits-opened s Unchanged t (λ _. refused _) (λ _ _. refused _) (λ _ _ _ _. refused _) (λ _ _ _ _ _ _. refused _) (λ _ _ _ _ _ _ _ _. refused _) (λ _ _ _ lead _ _ _. accepted _ (Committed (holds lead R0) (length lead.own)))
+  unchanged (abort t) = aborts-opened s Unchanged t (λ _. refused _) (λ _ _. refused _) (λ _ _. accepted _ Aborted)
 
 pub declined_changes_nothing : DeclinedChangesNothing
 declined_changes_nothing ar c s f h = unchanged ar s f c h

@@ -16,6 +16,7 @@ use Rattle.serial.specs.declared.fault.CallFault.TheVariants.{NoSlot, BadAllowan
 use Rattle.serial.specs.declared.fault.Turned.TheVariants.{Moved, Ended, Waiting}
 use Rattle.serial.specs.declared.fault.Standing.{Standing}
 use Rattle.serial.specs.declared.fault.Standing.TheVariants.{AtEnd, Halted, Ready}
+use Rattle.serial.specs.declared.fault.Accepted.{Accepted}
 use Rattle.serial.specs.declared.fault.Accepted.TheVariants.{Allowed, Begun, Took, Committed, Aborted}
 use Rattle.serial.specs.Faults.{Answer, step_fault}
 use Rattle.serial.specs.Machine.{Meaning, Steps, Stand, start, holds, Taken, moved, off_pages, store_read, write_of, has_read, has_written, has_read_any}
@@ -177,68 +178,97 @@ abbrev pub standing : Engine → ℕ → ℕ → Steps → Stand → Standing
 standing e t u script s =
     cond (u == t) (cond (nat_le (length script) s.step) AtEnd Ready) (cond (waits e t u script s) Halted Ready)
 
-abbrev pub with_engine : State → Engine → State
-with_engine s e = record { engine = e; pages = s.pages }
-
+-- what a call does and answers
 abbrev pub Done : Type 0
 Done = State × Answer
 
-abbrev pub decline : State → CallFault → Done
-decline s f = (s, Err f)
+-- A call makes its checks in order, and the first that fails gives its refusal. Where all pass there is the state after the
+-- call, and what it answers.
+abbrev pub Checked : Type 0 → Type 0
+Checked X = Result X CallFault
 
--- slots are numbered 0 to 7
-abbrev pub in_range : State → ℕ → Done → Done
-in_range s t rest = cond (nat_le t 7) rest (decline s (NoSlot t))
+-- what comes after a check
+infixl 10 ◌>>=◌
+abbrev pub ◌>>=◌ : {X Y : Type 0} → Checked X → (X → Checked Y) → Checked Y
+(Ok x) >>= rest = rest x
+(Err fault) >>= rest = Err fault
 
--- set allowance: k is 1 to 8, and no slot is open
+infixl 10 ◌>>◌
+abbrev pub ◌>>◌ : {X Y : Type 0} → Checked X → Checked Y → Checked Y
+(Ok x) >> rest = rest
+(Err fault) >> rest = Err fault
+
+-- a test has to be true; something has to be there; nothing may be there; a result has to be one
+infix 20 check◌else◌
+abbrev pub check◌else◌ : Bool → CallFault → Checked (Unit {0})
+check true else fault = Ok tt
+check false else fault = Err fault
+
+infix 20 some◌else◌
+abbrev pub some◌else◌ : {X : Type 0} → Option X → CallFault → Checked X
+some (Some x) else fault = Ok x
+some None else fault = Err fault
+
+infix 20 none◌else◌
+abbrev pub none◌else◌ : {X : Type 0} → Option X → (X → CallFault) → Checked (Unit {0})
+none None else fault = Ok tt
+none (Some x) else fault = Err (fault x)
+
+infix 20 ok◌else◌
+abbrev pub ok◌else◌ : {X E : Type 0} → Result X E → (E → CallFault) → Checked X
+ok (Ok x) else fault = Ok x
+ok (Err e) else fault = Err (fault e)
+
+-- a refused call leaves the state as it was
+abbrev pub called : State → Checked (State × Accepted) → Done
+called s (Ok x) = (x.0, Ok x.1)
+called s (Err fault) = (s, Err fault)
+
+-- the lowest open slot, of those from n on
 abbrev pub first_open : ℕ → List (Option Steps) → Option ℕ
 first_open n [] = None
 first_open n (None ∷ scripts) = first_open (suc n) scripts
 first_open n (Some script ∷ scripts) = Some n
 
-abbrev pub allow_closed : State → ℕ → Option ℕ → Done
-allow_closed s k (Some t) = decline s (SlotsOpen t)
-allow_closed s k None =
-    (with_engine s (record { allowance = k; scripts = s.engine.scripts; shadows = s.engine.shadows }), Ok Allowed)
-
+-- set allowance: k is 1 to 8, and no slot is open
 abbrev pub allows : State → ℕ → Done
-allows s k =
-    cond (nat_le 1 k && nat_le k 8) (allow_closed s k (first_open 0 s.engine.scripts)) (decline s (BadAllowance k))
+allows s k = called s do
+  check (nat_le 1 k && nat_le k 8) else BadAllowance k
+  none (first_open 0 s.engine.scripts) else SlotsOpen
+  Ok (record s { engine = record s.engine { allowance = k } }, Allowed)
 
 -- begin: the slot is closed and the bytes are a script; the slot opens with a leading shadow at step 0
 abbrev pub begun : Engine → ℕ → Steps → Engine
-begun e t script =
-    with_shadow (record { allowance = e.allowance; scripts = slice_set e.scripts t (Some script); shadows = e.shadows }) t t (Some start)
-
-abbrev pub begin_with : State → ℕ → Result Steps ScriptFault → Done
-begin_with s t (Err f) = decline s (Undecoded f)
-begin_with s t (Ok script) = (with_engine s (begun s.engine t script), Ok Begun)
+begun e t script = with_shadow (record e { scripts = slice_set e.scripts t (Some script) }) t t (Some start)
 
 abbrev pub begins : State → ℕ → List ℕ → Done
-begins s t bytes = in_range s t (cond (is_open s.engine t) (decline s (AlreadyOpen t)) (begin_with s t (decoded bytes)))
+begins s t bytes = called s do
+  check (nat_le t 7) else NoSlot t
+  check (not (is_open s.engine t)) else AlreadyOpen t
+  script ← ok (decoded bytes) else Undecoded
+  Ok (record s { engine = begun s.engine t script }, Begun)
 
--- turn: a leading shadow at its end has ended, a waiting shadow waits; else one step is taken. In every engine a shadow that
--- is able to try a step is before its script's end, so that there is always one to take
-abbrev pub turn_step : State → ℕ → ℕ → Steps → Stand → Option Taken → Done
-turn_step s t u script at None = (s, Ok (Took Ended))
-turn_step s t u script at (Some (off_pages p)) = decline s (OffPages (step_fault t at.step (fault_at p)))
-turn_step s t u script at (Some (moved to)) = (with_engine s (shadow_moves s.engine t u script at to), Ok (Took Moved))
+-- a step that is tried: to another stand, or for a page that the store does not have. In every engine a shadow that is able to
+-- try a step is before its script's end, so that there is always one to take
+abbrev pub tries : State → ℕ → ℕ → Steps → Stand → Option Taken → Checked (State × Accepted)
+tries s t u script at None = Ok (s, Took Ended)
+tries s t u script at (Some (off_pages p)) = Err (OffPages (step_fault t at.step (fault_at p)))
+tries s t u script at (Some (moved to)) = Ok (record s { engine = shadow_moves s.engine t u script at to }, Took Moved)
 
-abbrev pub turn_standing : Meaning → State → ℕ → ℕ → Steps → Stand → Standing → Done
-turn_standing ar s t u script at AtEnd = (s, Ok (Took Ended))
-turn_standing ar s t u script at Halted = (s, Ok (Took Waiting))
-turn_standing ar s t u script at Ready = turn_step s t u script at (next ar script s.pages at)
+-- a turn of a shadow, by what it finds
+abbrev pub turns_at : Meaning → State → ℕ → ℕ → Steps → Stand → Standing → Checked (State × Accepted)
+turns_at ar s t u script at AtEnd = Ok (s, Took Ended)
+turns_at ar s t u script at Halted = Ok (s, Took Waiting)
+turns_at ar s t u script at Ready = tries s t u script at (next ar script s.pages at)
 
-abbrev pub turn_shadow : Meaning → State → ℕ → ℕ → Steps → Option Stand → Done
-turn_shadow ar s t u script None = decline s (NoShadow u)
-turn_shadow ar s t u script (Some at) = turn_standing ar s t u script at (standing s.engine t u script at)
-
-abbrev pub turn_open : Meaning → State → ℕ → ℕ → Option Steps → Done
-turn_open ar s t u None = decline s (NotOpen t)
-turn_open ar s t u (Some script) = turn_shadow ar s t u script (shadow s.engine t u)
-
+-- turn: a leading shadow at its end has ended, a waiting shadow waits; else one step is taken
 abbrev pub turns : Meaning → State → ℕ → ℕ → Done
-turns ar s t u = in_range s t (in_range s u (turn_open ar s t u (script_of s.engine t)))
+turns ar s t u = called s do
+  check (nat_le t 7) else NoSlot t
+  check (nat_le u 7) else NoSlot u
+  script ← some (script_of s.engine t) else NotOpen t
+  at ← some (shadow s.engine t u) else NoShadow u
+  turns_at ar s t u script at (standing s.engine t u script at)
 
 -- closing t: its row goes, and every shadow for t
 abbrev pub cleared : ℕ → Row → Row
@@ -282,31 +312,23 @@ abbrev pub first_off : ℕ → List WriteEntry → Option ℕ
 first_off size [] = None
 first_off size (w ∷ own) = cond (nat_lt w.page size) (first_off size own) (Some w.page)
 
--- commit: the list of t's leading shadow, at its end, is put in its order, and t closes
-abbrev pub commit_puts : State → ℕ → Stand → Option ℕ → Done
-commit_puts s t lead (Some p) = decline s (Unwritable t (fault_at p))
-commit_puts s t lead None =
-    (record { engine = committed s.engine t lead.own; pages = put_all lead.own s.pages }, Ok (Committed (holds lead R0) (length lead.own)))
-
-abbrev pub commit_lead : State → ℕ → Steps → Stand → Done
-commit_lead s t script lead =
-    cond (nat_le (length script) lead.step) (commit_puts s t lead (first_off (length s.pages) lead.own)) (decline s (NotEnded lead.step))
-
--- (every open slot has its leading shadow, so that the start is never fallen back on here)
-abbrev pub commit_open : State → ℕ → Option Steps → Done
-commit_open s t None = decline s (NotOpen t)
-commit_open s t (Some script) = commit_lead s t script (unwrap_or (shadow s.engine t t) start)
-
+-- commit: the list of t's leading shadow, at its end, is put in its order, and t closes. (Every open slot has its leading
+-- shadow)
 abbrev pub commits : State → ℕ → Done
-commits s t = in_range s t (commit_open s t (script_of s.engine t))
+commits s t = called s do
+  check (nat_le t 7) else NoSlot t
+  script ← some (script_of s.engine t) else NotOpen t
+  lead ← some (shadow s.engine t t) else NotOpen t
+  check (nat_le (length script) lead.step) else NotEnded lead.step
+  none (first_off (length s.pages) lead.own) else λ p. Unwritable t (fault_at p)
+  Ok (record { engine = committed s.engine t lead.own; pages = put_all lead.own s.pages }, Committed (holds lead R0) (length lead.own))
 
 -- abort: t closes, and no page changes
-abbrev pub abort_open : State → ℕ → Option Steps → Done
-abort_open s t None = decline s (NotOpen t)
-abort_open s t (Some script) = (with_engine s (closed s.engine t s.engine.shadows), Ok Aborted)
-
 abbrev pub aborts : State → ℕ → Done
-aborts s t = in_range s t (abort_open s t (script_of s.engine t))
+aborts s t = called s do
+  check (nat_le t 7) else NoSlot t
+  check (is_open s.engine t) else NotOpen t
+  Ok (record s { engine = closed s.engine t s.engine.shadows }, Aborted)
 
 -- the five calls, with their arguments
 pub data Call : Type 0 where
