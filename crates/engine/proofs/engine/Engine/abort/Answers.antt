@@ -1,8 +1,7 @@
-use Rattle.std.proofs.Common.{◌≡◌, true, [], Some, Ok, sym, ◌∙◌}
+use Rattle.std.proofs.Common.{◌≡◌, true, [], Ok, sym, ◌∙◌}
 use Rattle.serial.specs.declared.fault.Accepted.TheVariants.{Aborted}
-use Rattle.serial.specs.Rules.{abort, script_of, is_open, closed}
+use Rattle.serial.specs.Rules.{abort, is_open, closed}
 use Rattle.serial.proofs.Outcomes.{abort_by}
-use Rattle.serial.proofs.Table.{some_is}
 use Rattle.engine.specs.Table.{engine_of}
 use Rattle.engine.specs.Calls.{state_of}
 use Rattle.engine.proofs.Kept.{kept_by, idle}
@@ -14,7 +13,6 @@ invariant_of-self c =
     let t = c.in_ok-t.t in
     let is = c.in_ok-t.ensures in
     let opened : is_open e t ≡ true = sym c.is_open.ensures ∙ c.if-not-is_open.false in
-    let sc = some_is (script_of e t) opened in
     kept_by idle (abort t) c.args.self.now [] [] c.close_slot.new.self (closed e t e.shadows) (Ok Aborted)
-    (abort_by (state_of c.args.self.now []) t (Some sc.0) is.1 sc.1)
+    (abort_by (state_of c.args.self.now []) t is.1 opened)
     c.close_slot.ensures
