@@ -54,8 +54,8 @@ module _ (s : State) (P : Done → Type 0) where
   At r = P (called s r)
 
   pub allows-opened : (k : ℕ)
-      → ((k < 1) ⊎ (8 < k) → P (s, Err (BadAllowance k)))
-      → ((t : ℕ) → 1 ≤ k → k ≤ 8 → first_open 0 s.engine.scripts ≡ Some t → P (s, Err (SlotsOpen t)))
+      → ((k < 1) ⊎ (8 < k) → At (Err (BadAllowance k)))
+      → ((t : ℕ) → 1 ≤ k → k ≤ 8 → first_open 0 s.engine.scripts ≡ Some t → At (Err (SlotsOpen t)))
       → (1 ≤ k → k ≤ 8 → first_open 0 s.engine.scripts ≡ None → P (record s { engine = record s.engine { allowance = k } }, Ok Allowed))
       → P (allows s k)
   allows-opened k bad busy go =
@@ -66,9 +66,9 @@ module _ (s : State) (P : Done → Type 0) where
       (λ e. bad (outside k e))
 
   pub begins-opened : (t : ℕ) (bytes : List ℕ)
-      → (8 ≤ t → P (s, Err (NoSlot t)))
-      → (t < 8 → is_open s.engine t ≡ true → P (s, Err (AlreadyOpen t)))
-      → (t < 8 → is_open s.engine t ≡ false → (f : ScriptFault) → decoded bytes ≡ Err f → P (s, Err (Undecoded f)))
+      → (8 ≤ t → At (Err (NoSlot t)))
+      → (t < 8 → is_open s.engine t ≡ true → At (Err (AlreadyOpen t)))
+      → (t < 8 → is_open s.engine t ≡ false → (f : ScriptFault) → decoded bytes ≡ Err f → At (Err (Undecoded f)))
       → (t < 8 → is_open s.engine t ≡ false → (sc : Steps) → decoded bytes ≡ Ok sc → P (record s { engine = begun s.engine t sc }, Ok Begun))
       → P (begins s t bytes)
   begins-opened t bytes far full bad go =
@@ -83,10 +83,10 @@ module _ (s : State) (P : Done → Type 0) where
   module _ (ar : Meaning) (t u : ℕ) where
     -- a shadow that is there takes its turn
     pub turns-opened :
-        (8 ≤ t → P (s, Err (NoSlot t)))
-        → (t < 8 → 8 ≤ u → P (s, Err (NoSlot u)))
-        → (t < 8 → u < 8 → script_of s.engine t ≡ None → P (s, Err (NotOpen t)))
-        → (t < 8 → u < 8 → (sc : Steps) → script_of s.engine t ≡ Some sc → shadow s.engine t u ≡ None → P (s, Err (NoShadow u)))
+        (8 ≤ t → At (Err (NoSlot t)))
+        → (t < 8 → 8 ≤ u → At (Err (NoSlot u)))
+        → (t < 8 → u < 8 → script_of s.engine t ≡ None → At (Err (NotOpen t)))
+        → (t < 8 → u < 8 → (sc : Steps) → script_of s.engine t ≡ Some sc → shadow s.engine t u ≡ None → At (Err (NoShadow u)))
         → (t < 8 → u < 8 → (sc : Steps) → script_of s.engine t ≡ Some sc → (at : Stand) → shadow s.engine t u ≡ Some at
         → P (called s (turns_at ar s t u sc at (standing s.engine t u sc at))))
         → P (turns ar s t u)
@@ -108,7 +108,7 @@ module _ (s : State) (P : Done → Type 0) where
         → (standing s.engine t u sc at ≡ AtEnd → P (s, Ok (Took Ended)))
         → (standing s.engine t u sc at ≡ Halted → P (s, Ok (Took Waiting)))
         → (standing s.engine t u sc at ≡ Ready → next ar sc s.pages at ≡ None → P (s, Ok (Took Ended)))
-        → (standing s.engine t u sc at ≡ Ready → (p : ℕ) → next ar sc s.pages at ≡ Some (off_pages p) → P (s, Err (OffPages (step_fault t at.step (fault_at p)))))
+        → (standing s.engine t u sc at ≡ Ready → (p : ℕ) → next ar sc s.pages at ≡ Some (off_pages p) → At (Err (OffPages (step_fault t at.step (fault_at p)))))
         → (standing s.engine t u sc at ≡ Ready → (to : Stand) → next ar sc s.pages at ≡ Some (moved to)
         → P (record s { engine = shadow_moves s.engine t u sc at to }, Ok (Took Moved)))
         → P (called s (turns_at ar s t u sc at (standing s.engine t u sc at)))
@@ -125,12 +125,12 @@ module _ (s : State) (P : Done → Type 0) where
         by Ready h = taken h (next ar sc s.pages at) refl
 
   pub commits-opened : (t : ℕ)
-      → (8 ≤ t → P (s, Err (NoSlot t)))
-      → (t < 8 → script_of s.engine t ≡ None → P (s, Err (NotOpen t)))
-      → (t < 8 → (sc : Steps) → script_of s.engine t ≡ Some sc → shadow s.engine t t ≡ None → P (s, Err (NotOpen t)))
-      → (t < 8 → (sc : Steps) → script_of s.engine t ≡ Some sc → (lead : Stand) → shadow s.engine t t ≡ Some lead → lead.step < length sc → P (s, Err (NotEnded lead.step)))
+      → (8 ≤ t → At (Err (NoSlot t)))
+      → (t < 8 → script_of s.engine t ≡ None → At (Err (NotOpen t)))
+      → (t < 8 → (sc : Steps) → script_of s.engine t ≡ Some sc → shadow s.engine t t ≡ None → At (Err (NotOpen t)))
+      → (t < 8 → (sc : Steps) → script_of s.engine t ≡ Some sc → (lead : Stand) → shadow s.engine t t ≡ Some lead → lead.step < length sc → At (Err (NotEnded lead.step)))
       → (t < 8 → (sc : Steps) → script_of s.engine t ≡ Some sc → (lead : Stand) → shadow s.engine t t ≡ Some lead → length sc ≤ lead.step
-      → (p : ℕ) → first_off (length s.pages) lead.own ≡ Some p → P (s, Err (Unwritable t (fault_at p))))
+      → (p : ℕ) → first_off (length s.pages) lead.own ≡ Some p → At (Err (Unwritable t (fault_at p))))
       → (t < 8 → (sc : Steps) → script_of s.engine t ≡ Some sc → (lead : Stand) → shadow s.engine t t ≡ Some lead → length sc ≤ lead.step
       → first_off (length s.pages) lead.own ≡ None
       → P (record { engine = committed s.engine t lead.own; pages = put_all lead.own s.pages }, Ok (Committed (holds lead R0) (length lead.own))))
@@ -153,8 +153,8 @@ module _ (s : State) (P : Done → Type 0) where
       (λ e. far (from_eight t e))
 
   pub aborts-opened : (t : ℕ)
-      → (8 ≤ t → P (s, Err (NoSlot t)))
-      → (t < 8 → is_open s.engine t ≡ false → P (s, Err (NotOpen t)))
+      → (8 ≤ t → At (Err (NoSlot t)))
+      → (t < 8 → is_open s.engine t ≡ false → At (Err (NotOpen t)))
       → (t < 8 → is_open s.engine t ≡ true → P (record s { engine = closed s.engine t s.engine.shadows }, Ok Aborted))
       → P (aborts s t)
   aborts-opened t far shut go =
