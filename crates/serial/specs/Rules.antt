@@ -2,7 +2,7 @@
 --
 -- Up to eight slots hold transactions. Row t of the table has the shadows of slot t: place t is its leading shadow, and
 -- place u its shadow for slot u, which guesses that u commits first.
-use Rattle.std.specs.Prelude.{ℕ, suc, Bool, true, false, cond, not, ◌&&◌, ◌||◌, List, [], ◌∷◌, ◌++◌, map, length, replicate, is_some, Some, None, Ok, Err, Option, Result, ◌==◌, nat_le, nat_lt, slice_index_or, slice_set}
+use Rattle.std.specs.Prelude.{ℕ, suc, Bool, true, false, if◌then◌else◌, not, ◌&&◌, ◌||◌, List, [], ◌∷◌, ◌++◌, map, length, replicate, is_some, Some, None, Ok, Err, Option, Result, ◌==◌, nat_le, nat_lt, slice_index_or, slice_set}
 use Rattle.std.specs.List.{slice_get}
 use Rattle.std.specs.Option.{unwrap_or}
 use Rattle.pages.specs.Pages.{fault_at}
@@ -63,8 +63,7 @@ abbrev pub shadow : Engine → ℕ → ℕ → Option Stand
 shadow e t u = slice_index_or (row e t) u None
 
 abbrev pub with_shadow : Engine → ℕ → ℕ → Option Stand → Engine
-with_shadow e t u x =
-    record { allowance = e.allowance; scripts = e.scripts; shadows = slice_set e.shadows t (slice_set (row e t) u x) }
+with_shadow e t u x = record e { shadows = slice_set e.shadows t (slice_set (row e t) u x) }
 
 -- what a shadow that may not be there has written, has read, and where it stands
 abbrev pub own_of : Option Stand → List WriteEntry
@@ -97,7 +96,7 @@ ahead s (Some best) = nat_lt best.step s.step
 
 abbrev pub better : (Stand → Bool) → Option Stand → Option Stand → Option Stand
 better test best None = best
-better test best (Some s) = cond (test s && ahead s best) (Some s) best
+better test best (Some s) = if test s && ahead s best then Some s else best
 
 abbrev pub furthest : (Stand → Bool) → Option Stand → Row → Option Stand
 furthest test best [] = best
@@ -121,7 +120,7 @@ has_room e t u = is_some (shadow e t u) || nat_lt (count (row e t)) e.allowance
 -- with no room for it nothing is done
 abbrev pub account : Engine → ℕ → ℕ → Engine
 account e t u =
-    cond (has_room e t u) (with_shadow e t u (Some (unwrap_or (furthest_of (clean e u) t (row e t)) start))) e
+    if has_room e t u then with_shadow e t u (Some (unwrap_or (furthest_of (clean e u) t (row e t)) start)) else e
 
 -- before a store read of p by t's leading shadow: another open slot u that t has no shadow for, and whose leading shadow
 -- has written p
@@ -130,7 +129,7 @@ read_conflict e t p u =
     not (u == t) && (is_open e u && (not (is_some (shadow e t u)) && has_written (lead_writes e u) p))
 
 abbrev pub account_read : Engine → ℕ → ℕ → ℕ → Engine
-account_read e t p u = cond (read_conflict e t p u) (account e t u) e
+account_read e t p u = if read_conflict e t p u then account e t u else e
 
 abbrev pub account_reads : Engine → ℕ → ℕ → List ℕ → Engine
 account_reads e t p [] = e
@@ -144,7 +143,7 @@ write_conflict e t p v =
     && (not (is_some (shadow e v t)) || has_read (reads_of (shadow e v t)) p)))
 
 abbrev pub account_write : Engine → ℕ → ℕ → ℕ → Engine
-account_write e t p v = cond (write_conflict e t p v) (account e v t) e
+account_write e t p v = if write_conflict e t p v then account e v t else e
 
 abbrev pub account_writes : Engine → ℕ → ℕ → List ℕ → Engine
 account_writes e t p [] = e
@@ -165,7 +164,7 @@ lead_moves e t script s to =
 
 -- steps of the other shadows set off no rule
 abbrev pub shadow_moves : Engine → ℕ → ℕ → Steps → Stand → Stand → Engine
-shadow_moves e t u script s to = cond (u == t) (lead_moves e t script s to) (with_shadow e t u (Some to))
+shadow_moves e t u script s to = if u == t then lead_moves e t script s to else with_shadow e t u (Some to)
 
 -- a shadow of t for u waits if it is at or past the step of t's leading shadow, or if its next step is a store read of a
 -- page that u's leading shadow has written
@@ -176,7 +175,7 @@ waits e t u script s =
 -- what a shadow's next turn finds
 abbrev pub standing : Engine → ℕ → ℕ → Steps → Stand → Standing
 standing e t u script s =
-    cond (u == t) (cond (nat_le (length script) s.step) AtEnd Ready) (cond (waits e t u script s) Halted Ready)
+    if u == t then (if nat_le (length script) s.step then AtEnd else Ready) else (if waits e t u script s then Halted else Ready)
 
 -- what a call does and answers
 abbrev pub Done : Type 0
@@ -278,12 +277,12 @@ abbrev pub without : List Row → ℕ → List Row
 without rows t = slice_set (map (cleared t) rows) t no_shadows
 
 abbrev pub closed : Engine → ℕ → List Row → Engine
-closed e t rows = record { allowance = e.allowance; scripts = slice_set e.scripts t None; shadows = without rows t }
+closed e t rows = record e { scripts = slice_set e.scripts t None; shadows = without rows t }
 
 -- a commit drops each shadow that has read a page just put
 abbrev pub kept : List WriteEntry → Option Stand → Option Stand
 kept own None = None
-kept own (Some s) = cond (has_read_any s.reads own) None (Some s)
+kept own (Some s) = if has_read_any s.reads own then None else Some s
 
 abbrev pub remaining : List WriteEntry → Row → Row
 remaining own shadows = map (kept own) shadows
@@ -296,9 +295,9 @@ spoils own (Some lead) = has_read_any lead.reads own
 -- a spoiled slot goes on from a copy of its furthest remaining shadow, else from a start at step 0
 abbrev pub renewed : List WriteEntry → ℕ → Row → Row
 renewed own v shadows =
-    cond (spoils own (slice_index_or shadows v None))
-    (slice_set (remaining own shadows) v (Some (unwrap_or (furthest_of any_shadow v (remaining own shadows)) start)))
-    (remaining own shadows)
+    if spoils own (slice_index_or shadows v None)
+    then slice_set (remaining own shadows) v (Some (unwrap_or (furthest_of any_shadow v (remaining own shadows)) start))
+    else remaining own shadows
 
 abbrev pub renew : List WriteEntry → ℕ → List Row → List Row
 renew own v [] = []
@@ -310,7 +309,7 @@ committed e t own = closed e t (renew own 0 e.shadows)
 -- the first written page that is not below the size
 abbrev pub first_off : ℕ → List WriteEntry → Option ℕ
 first_off size [] = None
-first_off size (w ∷ own) = cond (nat_lt w.page size) (first_off size own) (Some w.page)
+first_off size (w ∷ own) = if nat_lt w.page size then first_off size own else Some w.page
 
 -- commit: the list of t's leading shadow, at its end, is put in its order, and t closes. (Every open slot has its leading
 -- shadow)
