@@ -182,7 +182,7 @@ module _ (ar : Meaning) (s : State) (o : Holds s.engine) where
       (λ l shut f h. declined (begin t bytes) (Undecoded f) (
         (t, bytes, refl, h),
         λ g z. begin_fits s (λ g. (g ≡ Undecoded f) ⊎ (call_cause (Undecoded f) < call_cause g)) t bytes (λ n x. absurd (one_in s t n l x)) (λ full. absurd (both_ways (is_open s.engine t) shut full))
-          (λ g k. let m : Err f ≡ Err g = sym h ∙ k in let same : f ≡ g = cc in inl (ap Undecoded (sym same))) g z,
+            (λ g k. let m : Err f ≡ Err g = sym h ∙ k in let same : f ≡ g = cc in inl (ap Undecoded (sym same))) g z,
       ))
       (λ l shut sc h. inl (
         λ g z. begin_fits s (λ g. ⊥) t bytes (λ n x. one_in s t n l x) (λ full. both_ways (is_open s.engine t) shut full) (λ g k. let m : Ok sc ≡ Err g = sym h ∙ k in let no : ◌≡◌ {A = ℕ} 0 1 = cc in omega arith) g z,
@@ -301,9 +301,9 @@ module _ (ar : Meaning) (s : State) (o : Holds s.engine) where
       declined (commit t) (Unwritable t (fault_at p)) ((refl, here), commit_left t l sc lead script leads far (λ g. (g ≡ Unwritable t (fault_at p)) ⊎ (11 < call_cause g)) (λ f z. inl (ap (Unwritable t) (list_off-one s t (fault_at p) f here z)))))
       (λ l sc script lead leads far h. inl (
         commit_left t l sc lead script leads far (λ g. ⊥) (λ f z.
-        let stands : Some z.lead ≡ Some lead = sym z.leads ∙ leads in
-        let same : z.lead ≡ lead = cc in
-        none_off (length s.pages) lead.own z.page h (subst (λ y. FirstNotBelow (length s.pages) (map (λ w. w.page) y.own) z.page) same z.off)),
+            let stands : Some z.lead ≡ Some lead = sym z.leads ∙ leads in
+            let same : z.lead ≡ lead = cc in
+            none_off (length s.pages) lead.own z.page h (subst (λ y. FirstNotBelow (length s.pages) (map (λ w. w.page) y.own) z.page) same z.off)),
         (lead, leads, commits_so s.engine o t l lead.own, refl, refl),
       ))
     where
