@@ -1,21 +1,19 @@
 -- Every list of calls books serially. Assumes nothing.
-use Rattle.std.proofs.Common.{◌≡◌, ℕ, suc, ◌<◌, ◌≤◌, Bool, true, false, cond, ◌&&◌, eqb, leb, ◌≢◌, List, [], ◌∷◌, ◌++◌, length, set, Some, None, Ok, Err, Option, Result, unwrap_or, sym, refl, ap, ◌∙◌, subst, ⊎_elim, arith}
+use Rattle.std.proofs.Common.{◌≡◌, ℕ, suc, ◌<◌, ◌≤◌, Bool, true, false, cond, eqb, leb, ◌≢◌, List, [], ◌∷◌, ◌++◌, length, set, Some, None, Ok, Err, sym, refl, ap, ◌∙◌, subst, ⊎_elim, arith}
 use Rattle.std.specs.List.{slice_get}
 use Rattle.std.proofs.lemmas.List.{append-nil, append_assoc}
-use Rattle.std.proofs.lemmas.Bool.{cases_Bool, cases_lt, cond-true, cond-false, cond_both, or_cases, leb-true, le-leb, ne_eqb, both_ways}
-use Rattle.script.specs.Script.{decoded}
+use Rattle.std.proofs.lemmas.Bool.{cases_lt, cond-false, or_cases, leb-true, ne_eqb, both_ways}
 use Rattle.pages.specs.Pages.{fault_at}
 use Rattle.serial.specs.declared.fault.CallFault.{CallFault}
 use Rattle.serial.specs.declared.fault.CallFault.TheVariants.{NoSlot, NotOpen, NoShadow, OffPages, NotEnded, Unwritable}
 use Rattle.serial.specs.declared.fault.Turned.TheVariants.{Moved, Ended, Waiting}
-use Rattle.serial.specs.declared.fault.Standing.{Standing}
 use Rattle.serial.specs.declared.fault.Standing.TheVariants.{AtEnd, Halted, Ready}
 use Rattle.serial.specs.declared.fault.Accepted.TheVariants.{Allowed, Begun, Took, Committed, Aborted}
 use Rattle.serial.specs.Faults.{Answer, step_fault}
-use Rattle.serial.specs.Machine.{Meaning, Steps, Stand, start, Taken, moved, off_pages, store_read, has_read_any}
-use Rattle.serial.specs.Alone.{there, next, stand_at, whole_run, on_list, before_read_of, put_all}
+use Rattle.serial.specs.Machine.{Meaning, Steps, Stand, start, store_read, has_read_any}
+use Rattle.serial.specs.Alone.{there, stand_at, whole_run, on_list, before_read_of, put_all}
 use Rattle.serial.specs.Laws.{Leads}
-use Rattle.serial.specs.Rules.{State, Done, fresh, script_of, is_open, shadow, place_of, lead_writes, own_of, waits, standing, committed, Call, set_allowance, begin, turn, commit, abort, does, after, answers}
+use Rattle.serial.specs.Rules.{State, Done, fresh, script_of, shadow, place_of, lead_writes, own_of, waits, standing, committed, Call, set_allowance, begin, turn, commit, abort, does, after, answers}
 use Rattle.serial.specs.Book.{Ledger, enters, books_run, books_commit, books, book_after, commits_among, Tidy, Rescued, EveryListBooked}
 use Rattle.serial.proofs.Opened.{allows-opened, begins-opened, turns-opened, turn-found, commits-opened, aborts-opened}
 use Rattle.serial.proofs.Runs.{leads-ends, reached_stand, reached_same, reached_later, past_read, first_reached, First}

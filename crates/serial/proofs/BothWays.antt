@@ -1,12 +1,11 @@
 -- What a call comes to in words is what the rules make of it, and nothing else is. Assumes nothing.
-use Rattle.std.proofs.Common.{◌≡◌, ℕ, zero, suc, ◌+◌, ◌<◌, ◌≤◌, Bool, true, false, cond, ◌&&◌, ◌||◌, eqb, leb, ◌≢◌, ◌⊎◌, ◌↔◌, List, [], ◌∷◌, ◌++◌, map, length, get_or, is_some, Some, None, Ok, Err, Option, Result, unwrap_or, sym, refl, ap, ◌∙◌, subst, inl, inr, ⊎_elim, arith}
+use Rattle.std.proofs.Common.{◌≡◌, ℕ, zero, suc, ◌<◌, ◌≤◌, true, false, cond, eqb, leb, ◌≢◌, ◌⊎◌, ◌↔◌, List, [], ◌∷◌, ◌++◌, map, length, get_or, is_some, Some, None, Ok, Err, Option, Result, sym, refl, ap, ◌∙◌, subst, inl, inr, ⊎_elim, arith}
 use Rattle.std.specs.List.{slice_get}
 use Rattle.std.proofs.lemmas.Option.{slice_get_cases, slice_get_past}
-use Rattle.std.proofs.lemmas.Bool.{cases_Bool, cases_eq, cases_lt, cond_both, and_parts, and_from, or_cases, or_left, or_right, leb-true, leb-false, le-leb, eqb-true, eqb-false, both_ways, true≢false}
+use Rattle.std.proofs.lemmas.Bool.{cond_both, or_cases, or_left, or_right, leb-true, leb-false, le-leb, eqb-true, eqb-false, both_ways, true≢false}
 use Rattle.pages.specs.Pages.{fault_at}
 use Rattle.pages.specs.declared.StoreFault.{StoreFault}
 use Rattle.pages.specs.declared.WriteEntry.{WriteEntry}
-use Rattle.script.specs.Script.{decoded}
 use Rattle.script.specs.declared.Register.TheVariants.{R0}
 use Rattle.script.specs.declared.ScriptFault.{ScriptFault}
 use Rattle.script.specs.declared.Step.{Step}
@@ -19,25 +18,24 @@ use Rattle.serial.specs.declared.fault.Accepted.TheVariants.{Allowed, Begun, Too
 use Rattle.serial.specs.declared.fault.StepFault.{StepFault}
 use Rattle.serial.specs.declared.fault.CallFault.{CallFault}
 use Rattle.serial.specs.declared.fault.CallFault.TheVariants.{NoSlot, BadAllowance, SlotsOpen, AlreadyOpen, Undecoded, NotOpen, NoShadow, OffPages, NotEnded, Unwritable}
-use Rattle.serial.specs.Faults.{Answer, step_fault, call_cause}
-use Rattle.serial.specs.Machine.{Meaning, Steps, Stand, start, holds, Taken, moved, off_pages, takes, store_read, has_written}
+use Rattle.serial.specs.Faults.{step_fault, call_cause}
+use Rattle.serial.specs.Machine.{Meaning, Steps, Stand, holds, moved, off_pages, takes, store_read, has_written}
 use Rattle.serial.specs.Alone.{next, try_step, on_list, put_all}
-use Rattle.serial.specs.Rules.{Engine, State, Done, script_of, is_open, shadow, place_of, lead_writes, waits, standing, first_open, allows, begins, shadow_moves, turns, first_off, commits, aborts, Call, set_allowance, begin, turn, commit, abort, does, after, answers}
+use Rattle.serial.specs.Rules.{Engine, State, Done, script_of, is_open, shadow, place_of, lead_writes, waits, standing, allows, begins, shadow_moves, turns, commits, aborts, Call, set_allowance, begin, turn, commit, abort, does, after, answers}
 use Rattle.serial.specs.Questions.{of_shadow, of_open, asked, stand_told, entry_told}
 use Rattle.serial.specs.Sound.{SoundEngine}
-use Rattle.serial.specs.Words.{Waits, Finds, ShadowMoves, TurnAccepted, Commits, Aborts, Opens, Allows, Accepts}
-use Rattle.serial.specs.Refused.{Asked, made, question, named, FirstNotBelow, LowestOpen, StepOff, BeforeEnd, ListOff, Fits, LeastFits, NoneFits}
-use Rattle.serial.specs.Outcome.{Outcome, OneOutcome, DeclinedExactly, AcceptedExactly, CallsRun, OneRun, AnswersQuestion, EntryAt, StandInWords, ReadEntryInWords}
-use Rattle.serial.proofs.Table.{none_is_some, some_is, none_is, some_or_none}
-use Rattle.serial.proofs.Turns.{open_within}
+use Rattle.serial.specs.Words.{Waits, Finds, ShadowMoves, TurnAccepted, Commits, Opens, Accepts}
+use Rattle.serial.specs.Refused.{Asked, made, question, named, FirstNotBelow, StepOff, BeforeEnd, ListOff, Fits, LeastFits, NoneFits}
+use Rattle.serial.specs.Outcome.{Outcome, OneOutcome, DeclinedExactly, AcceptedExactly, OneRun, AnswersQuestion, EntryAt, StandInWords, ReadEntryInWords}
+use Rattle.serial.proofs.Table.{none_is_some, some_is}
 use Rattle.serial.proofs.Calls.{none_open}
-use Rattle.serial.proofs.Opened.{below_eight, from_eight, allows-opened, begins-opened, turns-opened, turn-found, commits-opened, aborts-opened}
+use Rattle.serial.proofs.Opened.{allows-opened, begins-opened, turns-opened, turn-found, commits-opened, aborts-opened}
 use Rattle.serial.proofs.Outcomes.{ready_before_end}
 use Rattle.serial.proofs.Sound.{ok_from, sound_from, Holds, does-sound}
 use Rattle.serial.proofs.Relations.{moves-one, commits-one, aborts-one, opens-one, allows-one}
 use Rattle.serial.proofs.Words.{moves_so, commits_so, aborts_so, opens_so}
 use Rattle.serial.proofs.Missing.{off_touches, touches_off}
-use Rattle.serial.proofs.Refused.{first_from-one, cause_low, off_first, none_off, first_open_lowest, lowest-one, slot_least, allow_fits, begin_fits, turn_fits, commit_fits, abort_fits, question_fits, one_in, both_in, step_off-one, before_end-one, list_off-one}
+use Rattle.serial.proofs.Refused.{cause_low, off_first, none_off, first_open_lowest, lowest-one, slot_least, allow_fits, begin_fits, turn_fits, commit_fits, abort_fits, question_fits, one_in, both_in, step_off-one, before_end-one, list_off-one}
 
 -- what a shadow's next turn finds is one thing
 finds-one : (e : Engine) (t u : ℕ) (sc : Steps) (s : Stand) (x y : Standing) → Finds e t u sc s x → Finds e t u sc s y → x ≡ y

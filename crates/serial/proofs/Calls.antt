@@ -1,16 +1,13 @@
 -- Every call keeps the invariant. Assumes nothing.
-use Rattle.std.proofs.Common.{◌≡◌, ℕ, zero, suc, ◌<◌, ◌≤◌, Bool, true, false, cond, ◌&&◌, eqb, leb, ◌≢◌, List, [], ◌∷◌, length, get_or, set, replicate, is_some, Some, None, Ok, Err, Option, Result, unwrap_or, sym, refl, ap, ◌∙◌, subst, ⊎_elim, arith, length-set, get_or-set_other, get_or-set_same}
-use Rattle.std.proofs.lemmas.Bool.{cases_Bool, cases_eq, cond-true, cond-false, cond_both, and_parts, leb-true, eqb-true, eqb-false, ne_eqb, true≢false}
+use Rattle.std.proofs.Common.{◌≡◌, ℕ, zero, suc, ◌<◌, ◌≤◌, Bool, true, false, cond, eqb, leb, ◌≢◌, List, [], ◌∷◌, length, get_or, set, replicate, is_some, Some, None, Option, sym, refl, ap, ◌∙◌, subst, ⊎_elim, arith, length-set, get_or-set_other, get_or-set_same}
+use Rattle.std.proofs.lemmas.Bool.{cases_Bool, cases_eq, cond-true, cond-false, eqb-true, eqb-false, ne_eqb, true≢false}
 use Rattle.script.specs.Laws.{EndsAtEnd, Decodes}
-use Rattle.script.specs.Script.{decoded}
-use Rattle.script.specs.declared.ScriptFault.{ScriptFault}
 use Rattle.script.proofs.Decoded.{decodes}
-use Rattle.serial.specs.declared.fault.Standing.{Standing}
 use Rattle.serial.specs.declared.fault.Standing.TheVariants.{AtEnd, Halted, Ready}
-use Rattle.serial.specs.Machine.{Meaning, Steps, Stand, start, Taken, moved, off_pages, has_read_any}
+use Rattle.serial.specs.Machine.{Meaning, Steps, Stand, start, moved, has_read_any}
 use Rattle.serial.specs.Alone.{next}
 use Rattle.serial.specs.Laws.{Leads, here}
-use Rattle.serial.specs.Rules.{Row, Engine, State, Done, no_shadows, fresh, fresh_engine, script_of, is_open, row, shadow, with_shadow, own_of, lead_writes, count, waits, standing, first_open, begun, lead_moves, shadow_moves, Call, set_allowance, begin, turn, commit, abort, does, after}
+use Rattle.serial.specs.Rules.{Row, Engine, State, no_shadows, fresh, fresh_engine, script_of, is_open, row, shadow, with_shadow, own_of, lead_writes, count, waits, standing, first_open, begun, lead_moves, shadow_moves, Call, set_allowance, begin, turn, commit, abort, does, after}
 use Rattle.serial.proofs.Table.{none_is_some, none_is, Sized, row_put, row_put_other, shadow_put, shadow_put_place, shadow_put_row, sized_put, count_add, nothing_at}
 use Rattle.serial.proofs.Opened.{allows-opened, begins-opened, turns-opened, turn-found, commits-opened, aborts-opened}
 use Rattle.serial.proofs.Kept.{no_exempt, RowInv, Inv}

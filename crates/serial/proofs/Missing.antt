@@ -1,11 +1,11 @@
 -- A step ends at a missing page exactly where it is a store read or a write of one. Assumes nothing.
-use Rattle.std.proofs.Common.{◌≡◌, ℕ, ◌≤◌, true, false, ltb, ◌⊎◌, List, length, Some, None, Option, sym, refl, ap, ◌∙◌, subst, inl, inr, ⊎_elim}
+use Rattle.std.proofs.Common.{◌≡◌, ℕ, ◌≤◌, true, false, ltb, ◌⊎◌, List, length, Some, None, Option, sym, ap, ◌∙◌, subst, inl, inr, ⊎_elim}
 use Rattle.std.proofs.lemmas.Bool.{cases_Bool, cond-true, cond-false, ltb-false, le-ltb}
 use Rattle.script.specs.declared.Register.{Register}
 use Rattle.script.specs.declared.Action.{Action}
 use Rattle.script.specs.declared.Action.TheVariants.{Read, ReadIndexed, Write, WriteIndexed, Set, Combine, Skip}
 use Rattle.script.specs.declared.Step.{Step}
-use Rattle.serial.specs.Machine.{Meaning, Stand, indexed, holds, does_action, with_write, with_register, written, writing, Taken, moved, off_pages, take_read, take_effect, page_read, page_written, unless_own, from_store, store_read, write_of}
+use Rattle.serial.specs.Machine.{Meaning, Stand, indexed, holds, does_action, with_write, with_register, written, writing, moved, off_pages, take_read, take_effect, page_read, page_written, unless_own, from_store, store_read, write_of}
 use Rattle.serial.specs.Alone.{try_step}
 use Rattle.serial.proofs.Steps.{off_moved}
 use Rattle.serial.proofs.Table.{none_is_some}

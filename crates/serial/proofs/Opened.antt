@@ -1,5 +1,5 @@
 -- What each call comes to, by the checks that decide it: whatever holds at each way out holds of the call. Assumes nothing.
-use Rattle.std.proofs.Common.{◌≡◌, ℕ, ◌<◌, ◌≤◌, Bool, true, false, not, ◌&&◌, leb, ◌⊎◌, List, length, is_some, Some, None, Ok, Err, Option, Result, refl, inl, inr, ⊎_elim, arith}
+use Rattle.std.proofs.Common.{◌≡◌, ℕ, ◌<◌, ◌≤◌, Bool, true, false, not, ◌&&◌, leb, ◌⊎◌, List, length, Some, None, Ok, Err, Option, Result, refl, inl, inr, ⊎_elim, arith}
 use Rattle.std.proofs.lemmas.Bool.{cases_lt, and_parts, and_from, leb-true, leb-false, le-leb, not-true, not-false, both_ways}
 use Rattle.pages.specs.Pages.{fault_at}
 use Rattle.script.specs.Script.{decoded}
@@ -15,7 +15,7 @@ use Rattle.serial.specs.declared.fault.Accepted.TheVariants.{Allowed, Begun, Too
 use Rattle.serial.specs.Faults.{step_fault}
 use Rattle.serial.specs.Machine.{Meaning, Steps, Stand, holds, Taken, moved, off_pages}
 use Rattle.serial.specs.Alone.{next, put_all}
-use Rattle.serial.specs.Rules.{Engine, State, Done, Checked, ◌>>=◌, ◌>>◌, check◌else◌, some◌else◌, none◌else◌, ok◌else◌, called, script_of, is_open, shadow, standing, first_open, allows, begun, begins, shadow_moves, tries, turns_at, turns, closed, committed, first_off, commits, aborts}
+use Rattle.serial.specs.Rules.{State, Done, Checked, ◌>>=◌, ◌>>◌, check◌else◌, some◌else◌, none◌else◌, ok◌else◌, called, script_of, is_open, shadow, standing, first_open, allows, begun, begins, shadow_moves, tries, turns_at, turns, closed, committed, first_off, commits, aborts}
 
 -- a check passes or refuses
 module _ {X : Type 0} (Q : Checked X → Type 0) where

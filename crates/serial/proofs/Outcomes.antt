@@ -6,7 +6,6 @@ use Rattle.script.specs.Script.{decoded}
 use Rattle.script.specs.declared.Register.TheVariants.{R0}
 use Rattle.script.specs.declared.ScriptFault.{ScriptFault}
 use Rattle.serial.specs.declared.fault.CallFault.TheVariants.{NoSlot, BadAllowance, SlotsOpen, AlreadyOpen, Undecoded, NotOpen, NoShadow, NotEnded, Unwritable}
-use Rattle.serial.specs.declared.fault.Standing.{Standing}
 use Rattle.serial.specs.declared.fault.Standing.TheVariants.{AtEnd, Halted, Ready}
 use Rattle.serial.specs.declared.fault.Accepted.{Accepted}
 use Rattle.serial.specs.declared.fault.Accepted.TheVariants.{Allowed, Begun, Committed, Aborted}

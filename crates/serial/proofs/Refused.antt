@@ -1,5 +1,5 @@
 -- What may fit each call, by the table of refusals. Assumes nothing.
-use Rattle.std.proofs.Common.{◌≡◌, ℕ, zero, suc, ◌+◌, ◌<◌, ◌≤◌, true, false, ltb, ◌⊎◌, List, [], ◌∷◌, map, length, get_or, is_some, Some, None, Ok, Err, Option, sym, refl, ap, ◌∙◌, subst, inl, inr, ⊎_elim, arith}
+use Rattle.std.proofs.Common.{◌≡◌, ℕ, zero, suc, ◌+◌, ◌<◌, ◌≤◌, true, false, ltb, ◌⊎◌, List, [], ◌∷◌, map, length, get_or, is_some, Some, None, Err, Option, sym, refl, ap, ◌∙◌, subst, inl, inr, ⊎_elim, arith}
 use Rattle.std.specs.List.{slice_get}
 use Rattle.std.proofs.lemmas.Bool.{cases_Bool, cases_lt, cond-true, cond-false, ltb-true, ltb-false, both_ways}
 use Rattle.pages.specs.Pages.{fault_at}
@@ -14,7 +14,7 @@ use Rattle.serial.specs.declared.fault.CallFault.TheVariants.{NoSlot, BadAllowan
 use Rattle.serial.specs.Faults.{step_fault, call_cause, call_returned}
 use Rattle.serial.specs.Machine.{Meaning, Steps, Stand, off_pages}
 use Rattle.serial.specs.Alone.{next}
-use Rattle.serial.specs.Rules.{Engine, State, Call, set_allowance, begin, turn, commit, abort, script_of, is_open, shadow, first_open, first_off}
+use Rattle.serial.specs.Rules.{Engine, State, set_allowance, begin, turn, commit, abort, is_open, shadow, first_open, first_off}
 use Rattle.serial.specs.Refused.{Asked, made, question, named, FirstNotBelow, LowestOpen, StepOff, BeforeEnd, ListOff, Fits, LeastFits, FaultsTold}
 use Rattle.serial.proofs.Table.{none_is_some}
 use Rattle.serial.proofs.Missing.{touches_off}

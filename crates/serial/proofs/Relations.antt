@@ -1,11 +1,11 @@
 -- Each relation in words leaves one engine after it. Assumes nothing.
-use Rattle.std.proofs.Common.{◌≡◌, ℕ, zero, suc, ◌<◌, ◌≤◌, Bool, true, false, not, ◌&&◌, ◌||◌, eqb, ◌≢◌, ◌⊎◌, List, [], get_or, is_some, Some, None, Option, sym, refl, ap, ◌∙◌, subst, inl, inr, ⊎_elim, arith}
+use Rattle.std.proofs.Common.{◌≡◌, ℕ, zero, suc, ◌<◌, ◌≤◌, true, false, not, ◌&&◌, ◌||◌, eqb, ◌≢◌, ◌⊎◌, List, [], get_or, is_some, Some, None, Option, sym, refl, ap, ◌∙◌, subst, inl, inr, ⊎_elim, arith}
 use Rattle.std.specs.List.{slice_get}
 use Rattle.std.proofs.lemmas.List.{ext_get_or}
-use Rattle.std.proofs.lemmas.Bool.{cases_Bool, cases_eq, cases_lt, and_parts, and_from, or_cases, or_left, or_right, not-true, not_from_false, eqb-false, ne_eqb, both_ways, true≢false}
+use Rattle.std.proofs.lemmas.Bool.{cases_Bool, cases_eq, cases_lt, and_parts, and_from, or_cases, or_left, or_right, not-true, not_from_false, eqb-false, ne_eqb, both_ways}
 use Rattle.pages.specs.declared.WriteEntry.{WriteEntry}
 use Rattle.serial.specs.Machine.{Meaning, Steps, Stand, store_read, write_of, has_read, has_written}
-use Rattle.serial.specs.Rules.{Row, Engine, fresh_engine, script_of, is_open, row, shadow, reads_of, lead_writes, clean, count, read_conflict, write_conflict}
+use Rattle.serial.specs.Rules.{Engine, fresh_engine, script_of, is_open, row, shadow, reads_of, lead_writes, clean, count, read_conflict, write_conflict}
 use Rattle.serial.specs.Sound.{Eight}
 use Rattle.serial.specs.Words.{SetsShadow, AccountsFor, SlotBySlot, DueBeforeRead, DueAfterWrite, LeadMoves, ShadowMoves, Closes, unread, Commits, Aborts, Opens, Allows, OneEngine, RelationsFixEngine, Fresh, FreshInWords}
 use Rattle.serial.proofs.Table.{none_is_some, none_is, some_or_none, here_or_not, nothing_at}

@@ -1,5 +1,5 @@
 -- Every call keeps what holds in every engine, over any pages. Assumes nothing.
-use Rattle.std.proofs.Common.{◌≡◌, ℕ, zero, suc, ◌+◌, ◌<◌, ◌≤◌, true, false, not, ◌&&◌, eqb, ltb, leb, ◌≢◌, ◌⊎◌, List, [], ◌∷◌, length, get_or, set, is_some, Some, None, Ok, Err, Option, Result, unwrap_or, sym, refl, ap, ◌∙◌, subst, inl, inr, ⊎_elim, arith}
+use Rattle.std.proofs.Common.{◌≡◌, ℕ, zero, suc, ◌+◌, ◌<◌, ◌≤◌, true, false, not, ◌&&◌, eqb, ltb, leb, ◌≢◌, ◌⊎◌, List, [], ◌∷◌, length, get_or, set, is_some, Some, None, Ok, Option, unwrap_or, sym, refl, ap, ◌∙◌, subst, inl, inr, ⊎_elim, arith}
 use Rattle.std.specs.List.{slice_get}
 use Rattle.std.proofs.lemmas.List.{length-append}
 use Rattle.std.proofs.Math.ListN.{get_or-map}
@@ -10,12 +10,8 @@ use Rattle.script.specs.declared.Step.{Step}
 use Rattle.script.specs.Laws.{leaves_out, EndsAtEnd, Decodes}
 use Rattle.script.specs.Script.{decoded}
 use Rattle.script.specs.declared.Register.{Register}
-use Rattle.script.specs.declared.ScriptFault.{ScriptFault}
 use Rattle.script.proofs.Decoded.{decodes, fit_facts}
-use Rattle.serial.specs.declared.fault.Standing.{Standing}
-use Rattle.serial.specs.declared.fault.Standing.TheVariants.{AtEnd, Halted, Ready}
-use Rattle.serial.specs.Machine.{Meaning, Steps, Stand, start, has_read_any, written, write, Effect, reading, writing, setting, leaving, effect, with_register, recorded, with_write, Taken, moved, off_pages, take_read, take_effect, store_read, write_of}
-use Rattle.serial.specs.Alone.{next}
+use Rattle.serial.specs.Machine.{Meaning, Steps, Stand, start, has_read_any, written, write, Effect, reading, writing, setting, leaving, effect, with_register, recorded, with_write, moved, off_pages, take_read, take_effect, store_read, write_of}
 use Rattle.serial.specs.Laws.{Next}
 use Rattle.serial.specs.Rules.{Engine, State, Done, slots, fresh_engine, script_of, is_open, row, shadow, with_shadow, clean, furthest_of, any_shadow, count, has_room, account, read_conflict, account_read, account_reads, write_conflict, account_write, account_writes, before_step, after_step, lead_moves, shadow_moves, first_open, begun, remaining, kept, committed, Call, set_allowance, begin, turn, commit, abort, does}
 use Rattle.serial.specs.Sound.{ends_within, script_fits, stands_once, shadow_fits, SoundEngine}

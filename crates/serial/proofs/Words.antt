@@ -1,7 +1,7 @@
 -- The rules do what is said of them in words. Assumes nothing.
-use Rattle.std.proofs.Common.{◌≡◌, ℕ, zero, suc, ◌<◌, ◌≤◌, Bool, true, false, not, ◌&&◌, ◌||◌, eqb, ltb, leb, ◌≢◌, ◌⊎◌, List, [], ◌∷◌, length, get_or, is_some, Some, None, Ok, Err, Option, Result, unwrap_or, sym, refl, ap, ◌∙◌, subst, inl, inr, ⊎_elim, arith}
+use Rattle.std.proofs.Common.{◌≡◌, ℕ, zero, suc, ◌<◌, true, not, ◌||◌, eqb, ltb, ◌≢◌, ◌⊎◌, List, [], ◌∷◌, length, get_or, is_some, Some, None, Ok, Err, Option, unwrap_or, sym, refl, ap, ◌∙◌, subst, inl, inr, ⊎_elim, arith}
 use Rattle.std.specs.List.{slice_get}
-use Rattle.std.proofs.lemmas.Bool.{cases_Bool, cases_eq, cond-true, cond-false, cond_both, and_parts, or_cases, or_left, or_right, lt-ltb, or_from, le-ltb, eqb-true, eqb-false, eq-eqb, ne_eqb, le-leb, not-true, not-false, not_from_false, false_from_ne_true, true≢false}
+use Rattle.std.proofs.lemmas.Bool.{cases_eq, cond-true, cond-false, cond_both, and_parts, or_cases, or_left, or_right, lt-ltb, or_from, le-ltb, eqb-true, eqb-false, not-true, not-false, not_from_false, false_from_ne_true}
 use Rattle.pages.specs.declared.WriteEntry.{WriteEntry}
 use Rattle.script.specs.declared.Register.TheVariants.{R0}
 use Rattle.serial.specs.declared.fault.CallFault.{CallFault}
@@ -10,11 +10,10 @@ use Rattle.serial.specs.declared.fault.Accepted.{Accepted}
 use Rattle.serial.specs.declared.fault.Accepted.TheVariants.{Allowed, Begun, Took, Committed, Aborted}
 use Rattle.serial.specs.Machine.{Meaning, Steps, Stand, start, holds, moved, store_read, write_of, has_read, has_written, has_read_any}
 use Rattle.serial.specs.Alone.{next}
-use Rattle.serial.specs.Rules.{Row, Engine, State, Done, slots, script_of, is_open, row, shadow, with_shadow, reads_of, own_of, lead_writes, furthest_of, any_shadow, clean, count, has_room, account, read_conflict, account_read, account_reads, write_conflict, account_write, account_writes, before_step, after_step, lead_moves, shadow_moves, begun, kept, remaining, closed, committed, Call, set_allowance, begin, turn, commit, abort, does}
-use Rattle.serial.specs.Sound.{SoundEngine}
+use Rattle.serial.specs.Rules.{Engine, State, Done, slots, script_of, is_open, row, shadow, with_shadow, reads_of, own_of, lead_writes, furthest_of, any_shadow, clean, count, has_room, account, read_conflict, account_read, account_reads, write_conflict, account_write, account_writes, before_step, after_step, lead_moves, shadow_moves, begun, kept, remaining, closed, committed, Call, set_allowance, begin, turn, commit, abort, does}
 use Rattle.serial.specs.Words.{Furthest, FurthestOrStart, SetsShadow, AccountsFor, SlotBySlot, DueBeforeRead, DueAfterWrite, LeadMoves, ShadowMoves, Closes, unread, Commits, Aborts, Opens, AccountsInWords, AccountedFor, TurnsChangeOnly, DeclinedChangesNothing}
 use Rattle.serial.proofs.Opened.{allows-opened, begins-opened, turns-opened, turn-found, commits-opened, aborts-opened}
-use Rattle.serial.proofs.Table.{none_is_some, none_is, some_or_none, Sized, shadow-within, shadow_put, shadow_put_place, shadow_put_row, sized_put, count_set, kept_was, kept-unread}
+use Rattle.serial.proofs.Table.{none_is, some_or_none, Sized, shadow-within, shadow_put, shadow_put_place, shadow_put_row, sized_put, count_set, kept_was, kept-unread}
 use Rattle.serial.proofs.Turns.{open_within, open_kept}
 use Rattle.serial.proofs.Commits.{none_of, none_for, others_kept, lead_stays, lead_renewed, lead_none, committed-sized, script-there, script_other, kept_nil, abort_is}
 use Rattle.serial.proofs.Conflicts.{read_any_nil}

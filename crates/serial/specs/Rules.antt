@@ -8,7 +8,6 @@ use Rattle.std.specs.Option.{unwrap_or}
 use Rattle.pages.specs.Pages.{fault_at}
 use Rattle.pages.specs.declared.WriteEntry.{WriteEntry}
 use Rattle.script.specs.declared.Register.TheVariants.{R0}
-use Rattle.script.specs.declared.ScriptFault.{ScriptFault}
 use Rattle.script.specs.Script.{decoded}
 use Rattle.serial.specs.declared.ReadEntry.{ReadEntry}
 use Rattle.serial.specs.declared.fault.CallFault.{CallFault}
