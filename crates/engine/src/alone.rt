@@ -17,12 +17,12 @@ use basics::Refusal;
 use pages::{Reader, Store, StoreFault, WriteEntry};
 use script::{Register, Script, ScriptFault, Step, decode};
 
-// Why a script is not run to its end.
+/// Why a script is not run to its end (docs/REFUSALS.md: 5, 6 and 9).
 #[derive(Clone, Copy, PartialEq, Eq, Debug)]
 pub enum AloneFault {
-    // the bytes are no script
+    /// the bytes are no script
     Script(ScriptFault),
-    // a step is for a page that the store does not have
+    /// a step is for a page that the store does not have
     Step { step: usize, fault: StoreFault },
 }
 
@@ -109,8 +109,8 @@ pub(crate) fn put_all<S: Store>(own: &[WriteEntry], store: &mut S)
     }
 }
 
-// Runs a script alone over the store, and puts what it has written. Answers register 0 and the number of pages put. A
-// fault leaves the store as it was.
+/// Runs a script alone over the store, and puts what it has written (docs/SCRIPTS.md). Answers register 0 and how many pages
+/// were put. A fault leaves the store as it was.
 pub fn run_alone<S: Store, A: Arithmetic>(
     bytes: &[u8],
     store: &mut S,

@@ -10,8 +10,8 @@ mod questions;
 
 pub use booking::{Call, carry_out};
 
-// Every engine is sound: a closed slot has no shadow, an open one has its leading shadow, no slot has more shadows than the
-// allowance, and no shadow is for a closed slot.
+/// A transaction engine: eight slots with their scripts, and the shadows that run them. The rules are in docs/ENGINE.md.
+/// However one was come by, it is sound (`SoundEngine`): that is what its ghost fields hold.
 #[derive(Drop)]
 pub struct Engine {
     table: Table,

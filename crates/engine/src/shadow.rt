@@ -12,8 +12,8 @@ use serial::ReadEntry;
 
 mod effects;
 
-// A fork copies it by value, from one place of its row to another. Clauses see it by `stand_of`: a model would forget the unused places of its lists, and a copy
-// needs them.
+/// A run of a slot's script that has come so far. A fork copies it by value, from one place of its row to another.
+// Clauses see it by `stand_of`: a model would forget the unused places of its lists, and a copy needs them.
 #[derive(Clone, Copy)]
 pub struct Shadow {
     step: usize,
@@ -49,13 +49,14 @@ impl Shadow {
         }
     }
 
-    // The step that is next.
+    /// The step that is next, from 0; past the last one at the end.
     pub fn step(&self) -> usize
         ensures { result ≡ (stand_of self.now).step }
     {
         self.step
     }
 
+    /// The recorded reads: the step and page of each store read, in order.
     pub fn reads(&self) -> &[ReadEntry]
         ensures { result.now ≡ (stand_of self.now).reads }
     {
@@ -69,6 +70,7 @@ impl Shadow {
         self.reads.get(index)
     }
 
+    /// The own list: each page that was written, once, in order of first write, with its latest word.
     pub fn own(&self) -> &[WriteEntry]
         ensures { result.now ≡ (stand_of self.now).own }
     {
@@ -82,6 +84,7 @@ impl Shadow {
         self.own
     }
 
+    /// What a register holds.
     pub fn register(&self, register: Register) -> u32
         ensures { result ≡ holds (stand_of self.now) register }
     {
@@ -103,7 +106,7 @@ impl Shadow {
         self.reads().iter().any(|read| read.page == page)
     }
 
-    // Whether a recorded read names a page of the list. The project wants these loops, left by a label at the first such page.
+    /// Whether a recorded read names a page of the list. Both loops end at the first such page.
     pub fn has_read_any(&self, list: &[WriteEntry]) -> bool
         ensures { result ≡ has_read_any (stand_of self.now).reads list.now }
     {

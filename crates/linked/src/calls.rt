@@ -30,6 +30,7 @@ fn told_unit(res: Result<(), CallFault>) -> Told
     }
 }
 
+/// `Engine::set_allowance`. No value where it is accepted.
 #[unsafe(no_mangle)]
 pub extern "C" fn gorsepick_set_allowance(engine: &mut Handle, allowance: u32) -> Told
     ensures rule { (pages : List ℕ) → done_told (allows (state_of engine.old.engine pages) allowance) ≡ (state_of engine.new.engine pages, result) }
@@ -41,6 +42,7 @@ pub extern "C" fn gorsepick_set_allowance(engine: &mut Handle, allowance: u32) -
     told_unit(engine.engine().set_allowance(allowance))
 }
 
+/// `Engine::begin`. No value where it is accepted.
 #[unsafe(no_mangle)]
 pub extern "C" fn gorsepick_begin(engine: &mut Handle, slot: u32, script: &[u8]) -> Told
     ensures rule { (pages : List ℕ) → done_told (begins (state_of engine.old.engine pages) slot script.now) ≡ (state_of engine.new.engine pages, result) }
@@ -106,6 +108,8 @@ fn turn_flat(engine: &mut Handle, slot: u32, other: u32, words: &mut [u32], flag
     turn_with(engine, slot, other, &Flat::new(words), flags)
 }
 
+/// `Engine::turn` over the host's words, flat or as a log, with the arithmetic of flags or of counters (docs/ARITHMETIC.md).
+/// One value where it is accepted: 0 moved, 1 ended, 2 waiting.
 #[unsafe(no_mangle)]
 pub extern "C" fn gorsepick_turn(
     engine: &mut Handle,
@@ -172,6 +176,8 @@ fn commit_flat(engine: &mut Handle, slot: u32, store: &mut Flat) -> Told
     commit_to(engine, slot, store)
 }
 
+/// `Engine::commit` to the host's words, flat or as a log. Two values where it is accepted: register 0, and how many pages
+/// were put.
 #[unsafe(no_mangle)]
 pub extern "C" fn gorsepick_commit(
     engine: &mut Handle,
@@ -194,6 +200,7 @@ pub extern "C" fn gorsepick_commit(
     }
 }
 
+/// `Engine::abort`. No value where it is accepted.
 #[unsafe(no_mangle)]
 pub extern "C" fn gorsepick_abort(engine: &mut Handle, slot: u32) -> Told
     ensures rule { (pages : List ℕ) → done_told (aborts (state_of engine.old.engine pages) slot) ≡ (state_of engine.new.engine pages, result) }

@@ -10,7 +10,7 @@ ghost use Rattle.linked.specs.History.{MadeFresh};
 use engine::Engine;
 use std::marker::Model;
 
-// Room for an engine in memory that a host keeps, whatever lies there.
+/// Room for an engine in memory that a host keeps, whatever lies there.
 #[repr(C)]
 pub struct Room {
     at: *mut Engine,
@@ -20,7 +20,7 @@ impl Model for Room {
     ghost also_owns = { λ room. uninit_at EngineRow room.at };
 }
 
-// The size of an engine in bytes.
+/// The size of an engine in bytes.
 #[unsafe(no_mangle)]
 pub extern "C" fn gorsepick_engine_size() -> usize
     ensures { result ≡ engine_bytes }
@@ -35,7 +35,7 @@ fn fresh() -> Engine
     Engine::new()
 }
 
-// Makes a fresh engine where there is room: the host has the engine then, and the room no longer.
+/// Makes a fresh engine where there is room: the host has the engine then, and the room no longer.
 #[unsafe(no_mangle)]
 pub extern "C" fn gorsepick_fresh(room: Room)
     ensures* { ∃ₛ (λ (e : Engine). sem 𝓛 (points_to EngineRow room.at e) ∗ ⌜ MadeFresh e ⌝) }

@@ -8,7 +8,7 @@ ghost use Rattle.engine.specs.declared.engine.Engine.{Engine};
 use engine::Engine;
 use std::marker::Model;
 
-// Where a host has its engine. The engine itself cannot cross to C, since its memory has enums; a pointer to it can.
+/// Where a host has its engine. The engine itself cannot cross to C, since its memory has enums; a pointer to it can.
 #[repr(C)]
 pub struct Handle {
     at: *mut Engine,

@@ -4,6 +4,7 @@ ghost use Rattle.linked.specs.Host.{pages_in, PageRead, PagePut, page_missed};
 
 use pages::{Flat, Log, Reader, Store, StoreFault};
 
+/// How many pages the host's words are, as a flat store or as a log store (docs/PAGES.md).
 #[unsafe(no_mangle)]
 pub extern "C" fn gorsepick_size(words: &mut [u32], log: bool) -> u32
     ensures size { result ≡ length (pages_in log words.old) }
@@ -16,7 +17,7 @@ pub extern "C" fn gorsepick_size(words: &mut [u32], log: bool) -> u32
     }
 }
 
-// Reads a page into `word`, or tells the page of the fault in `missing`.
+/// Reads a page into `word` and answers true, or tells the page of the fault in `missing` and answers false.
 #[unsafe(no_mangle)]
 pub extern "C" fn gorsepick_read(
     words: &mut [u32],
@@ -46,7 +47,7 @@ pub extern "C" fn gorsepick_read(
     }
 }
 
-// Puts a word to a page, or tells the page of the fault in `missing`.
+/// Puts a word to a page and answers true, or tells the page of the fault in `missing` and answers false.
 #[unsafe(no_mangle)]
 pub extern "C" fn gorsepick_put(
     words: &mut [u32],

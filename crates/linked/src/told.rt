@@ -6,6 +6,8 @@ ghost use Rattle.linked.specs.Told.{told as told_of, declined as declined_of, tu
 use basics::Refusal;
 use serial::{CallFault, ReadEntry, Standing, Turned};
 
+/// What a call or a question answers: the number of its refusal (docs/REFUSALS.md), or 0, and up to three values. What
+/// they are for each is in docs/LINKING.md.
 #[repr(C)]
 #[derive(Clone, Copy)]
 pub struct Told {

@@ -12,7 +12,7 @@ use arithmetic::Arithmetic;
 use pages::Store;
 use serial::{Accepted, Answer};
 
-// One of the five calls, with its arguments.
+/// One of the five calls, with its arguments (docs/ENGINE.md).
 #[derive(Clone, Copy, PartialEq, Eq, Debug)]
 pub enum Call<'a> {
     SetAllowance { allowance: u32 },
@@ -23,7 +23,7 @@ pub enum Call<'a> {
 }
 
 impl Engine {
-    // Carries out one call.
+    /// Carries out one call, as the function of its name does.
     #[tactic(auto, using(serial::proofs::Continued::continued))]
     pub fn call<S: Store, A: Arithmetic>(
         &mut self,
@@ -56,8 +56,8 @@ impl Engine {
     }
 }
 
-// Carries out a list of calls on a fresh engine, declined ones among them, and answers each: as many as there is room for
-// answers. Gives back the engine and how many were carried out. Whatever the calls, they book serially.
+/// Carries out a list of calls on a fresh engine, declined ones among them, and answers each: as many as there is room for
+/// answers. Gives back the engine and how many were carried out. Whatever the calls, they book serially (docs/SERIAL.md).
 pub fn carry_out<S: Store, A: Arithmetic>(
     calls: &[Call],
     answers: &mut [Answer],

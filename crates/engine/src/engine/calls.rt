@@ -30,7 +30,7 @@ fn first_missing(own: &[WriteEntry], size: u32) -> Option<u32>
 
 // That a refusal leaves the engine as it was is a clause of each call, where its reader looks for it.
 impl Engine {
-    // A fresh engine has allowance 2 and all slots closed.
+    /// An engine with allowance 2 and no slot open.
     #[tactic(auto, using(crate::proofs::Continues::as_fresh_any))]
     pub fn new() -> Engine
         ensures rule { engine_of result.table ≡ fresh_engine }
@@ -41,7 +41,8 @@ impl Engine {
         }
     }
 
-    // Sets the allowance, while no slot is open.
+    /// Sets how many shadows a slot may have at once, its leading one among them: 1 to 8. Refused, in this order, with 2
+    /// and with 3. (Numbers and values are in docs/REFUSALS.md, the calls in docs/ENGINE.md.)
     #[tactic(auto, using(crate::proofs::Continues::over_any))]
     pub fn set_allowance(&mut self, k: u32) -> Result<(), CallFault>
         ensures rule { (pages : List ℕ) → allows (state_of self.old pages) k ≡ (state_of self.new pages, answers_by (λ _. Allowed) result) }
@@ -59,7 +60,8 @@ impl Engine {
         Ok(())
     }
 
-    // Opens a slot with a script.
+    /// Opens slot 0 to 7 with a script of 1 + 5n bytes (docs/SCRIPTS.md), which is copied; its leading shadow starts at
+    /// step 0. Refused, in this order, with 1, 4, 5 and 6.
     #[tactic(auto, using(crate::proofs::Continues::over_any))]
     pub fn begin(&mut self, slot: u32, script: &[u8]) -> Result<(), CallFault>
         ensures rule { (pages : List ℕ) → begins (state_of self.old pages) slot script.now ≡ (state_of self.new pages, answers_by (λ _. Begun) result) }
@@ -76,7 +78,8 @@ impl Engine {
         Ok(())
     }
 
-    // One step of a slot's shadow for another slot, or of its leading shadow where both are the same.
+    /// One step of a slot's shadow for another slot, or of its leading shadow where both are the same, unless it has ended
+    /// or waits. Reads go to the reader, writes to the shadow's own list. Refused, in this order, with 1, 7, 8 and 9.
     pub fn turn<R: Reader, A: Arithmetic>(
         &mut self,
         slot: u32,
@@ -103,8 +106,9 @@ impl Engine {
         }
     }
 
-    // Puts the list of a slot's leading shadow, at its end, and closes the slot. Answers register 0 and the number of pages
-    // put, as the pair that the project wants.
+    /// Puts the own list of a slot's leading shadow, which has to be at its end, and closes the slot. A slot that had read
+    /// what is put goes on from its furthest shadow that had not. Answers register 0 and how many pages were put. Refused,
+    /// in this order, with 1, 7, 10 and 11.
     #[tactic(auto, using(crate::proofs::Continues::by_any))]
     pub fn commit<S: Store>(&mut self, slot: u32, store: &mut S) -> Result<(u32, usize), CallFault>
         ensures rule { commits (state_of self.old (S.Reader.pages store.old)) slot ≡ (state_of self.new (S.Reader.pages store.new), answers_by committing result) }
@@ -131,7 +135,7 @@ impl Engine {
         Ok((word, own.len()))
     }
 
-    // Closes a slot, and changes no page.
+    /// Closes a slot, and puts nothing. Refused, in this order, with 1 and 7.
     #[tactic(auto, using(crate::proofs::Continues::over_any))]
     pub fn abort(&mut self, slot: u32) -> Result<(), CallFault>
         ensures rule { (pages : List ℕ) → aborts (state_of self.old pages) slot ≡ (state_of self.new pages, answers_by (λ _. Aborted) result) }

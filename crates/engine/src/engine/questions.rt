@@ -12,7 +12,8 @@ use crate::slot::Slot;
 use serial::{CallFault, ReadEntry, Standing};
 
 impl Engine {
-    // A shadow's step, and what its next turn would find.
+    /// A shadow's step, 0 to 16, and what its next turn would find. Refused, in this order, with 1, 7 and 8
+    /// (docs/REFUSALS.md).
     pub fn stand(&self, slot: u32, other: u32) -> Result<(usize, Standing), CallFault>
         ensures { result ≡ stand_told (engine_of self.now.table) slot other }
     {
@@ -20,7 +21,7 @@ impl Engine {
         Ok((self.table.shadow_at(t, u).step(), self.table.standing(t, u)))
     }
 
-    // The step and page of a shadow's recorded read, counted from 0, or absent.
+    /// The step and page of a shadow's recorded read, by its index from 0, or none where it has no more. Refused as `stand`.
     pub fn read_entry(
         &self,
         slot: u32,
@@ -33,7 +34,7 @@ impl Engine {
         Ok(self.table.shadow_at(t, u).read(index))
     }
 
-    // A copy of a shadow, where there is one.
+    /// A copy of a shadow, or none where a slot number is above 7, the slot is not open, or there is no such shadow.
     pub fn shadow(&self, slot: u32, other: u32) -> Option<Shadow>
         ensures { option_map stand_of result ≡ shadow_at (engine_of self.now.table) slot other }
     {
