@@ -62,7 +62,7 @@ enum {
     GORSEPICK_UNDEFINED = 6,     /* a script with a step that is not defined: the first such step */
     GORSEPICK_NOT_OPEN = 7,      /* a slot that is not open: the slot */
     GORSEPICK_NO_SHADOW = 8,     /* no such shadow: the slot that it would be for */
-    GORSEPICK_OFF_PAGES = 9,     /* a turn would read or write a page that the store does not have: the slot, the step, the page */
+    GORSEPICK_OFF_PAGES = 9,     /* a turn would read from the store, or write, a page that it does not have: the slot, the step, the page */
     GORSEPICK_NOT_ENDED = 10,    /* commit before the end: the leading shadow's step */
     GORSEPICK_UNWRITABLE = 11    /* commit with a page not below the size: the slot, the first such page */
 };
