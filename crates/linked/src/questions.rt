@@ -7,7 +7,7 @@ ghost use Rattle.linked.specs.Told.{stand_told_by, entry_told_by};
 use crate::handle::Handle;
 use crate::told::{Told, told_entry, told_stand};
 
-/// `Engine::stand`. Two values: the step, and 0 for at its end, 1 for waiting, 2 for ready.
+/// `Engine::stand`. Two values where it is not refused: the step, and 0 for at its end, 1 for waiting, 2 for ready.
 #[unsafe(no_mangle)]
 pub extern "C" fn gorsepick_stand(engine: &mut Handle, slot: u32, other: u32) -> Told
     ensures told { result ≡ stand_told_by (stand_told (engine_of engine.old.engine.table) slot other) }
@@ -16,7 +16,7 @@ pub extern "C" fn gorsepick_stand(engine: &mut Handle, slot: u32, other: u32) ->
     told_stand(engine.engine().stand(slot, other))
 }
 
-/// `Engine::read_entry`. Two values, step and page, or none where there are no more entries.
+/// `Engine::read_entry`. Two values where it is not refused, step and page, or none where there are no more entries.
 #[unsafe(no_mangle)]
 pub extern "C" fn gorsepick_read_entry(
     engine: &mut Handle,

@@ -41,8 +41,8 @@ impl Engine {
         }
     }
 
-    /// Sets how many shadows a slot may have at once, its leading one among them: 1 to 8. Refused, in this order, with 2
-    /// and with 3. (Numbers and values are in docs/REFUSALS.md, the calls in docs/ENGINE.md.)
+    /// Sets, while no slot is open, how many shadows a slot may have at once, its leading one among them: 1 to 8. Refused,
+    /// in this order, with 2 and 3. (Numbers and values are in docs/REFUSALS.md, the calls in docs/ENGINE.md.)
     #[tactic(auto, using(crate::proofs::Continues::over_any))]
     pub fn set_allowance(&mut self, k: u32) -> Result<(), CallFault>
         ensures rule { (pages : List ℕ) → allows (state_of self.old pages) k ≡ (state_of self.new pages, answers_by (λ _. Allowed) result) }
@@ -60,8 +60,8 @@ impl Engine {
         Ok(())
     }
 
-    /// Opens slot 0 to 7 with a script of 1 + 5n bytes (docs/SCRIPTS.md), which is copied; its leading shadow starts at
-    /// step 0. Refused, in this order, with 1, 4, 5 and 6.
+    /// Opens a slot, 0 to 7, with the script that 1 + 5n bytes say (docs/SCRIPTS.md); the bytes are not kept. Its leading
+    /// shadow starts at step 0. Refused, in this order, with 1, 4, 5 and 6.
     #[tactic(auto, using(crate::proofs::Continues::over_any))]
     pub fn begin(&mut self, slot: u32, script: &[u8]) -> Result<(), CallFault>
         ensures rule { (pages : List ℕ) → begins (state_of self.old pages) slot script.now ≡ (state_of self.new pages, answers_by (λ _. Begun) result) }
@@ -79,7 +79,8 @@ impl Engine {
     }
 
     /// One step of a slot's shadow for another slot, or of its leading shadow where both are the same, unless it has ended
-    /// or waits. Reads go to the reader, writes to the shadow's own list. Refused, in this order, with 1, 7, 8 and 9.
+    /// or waits. Writes go to the shadow's own list, and so do reads of a page on it; other reads go to the reader.
+    /// Refused, in this order, with 1, 7, 8 and 9.
     pub fn turn<R: Reader, A: Arithmetic>(
         &mut self,
         slot: u32,
@@ -106,9 +107,9 @@ impl Engine {
         }
     }
 
-    /// Puts the own list of a slot's leading shadow, which has to be at its end, and closes the slot. A slot that had read
-    /// what is put goes on from its furthest shadow that had not. Answers register 0 and how many pages were put. Refused,
-    /// in this order, with 1, 7, 10 and 11.
+    /// Puts the own list of a slot's leading shadow, which has to be at its end, and closes the slot. A slot whose leading
+    /// shadow had read a page that is put goes on from a copy of its furthest shadow that had read none, or else from step
+    /// 0. Answers register 0 and how many pages were put. Refused, in this order, with 1, 7, 10 and 11.
     #[tactic(auto, using(crate::proofs::Continues::by_any))]
     pub fn commit<S: Store>(&mut self, slot: u32, store: &mut S) -> Result<(u32, usize), CallFault>
         ensures rule { commits (state_of self.old (S.Reader.pages store.old)) slot ≡ (state_of self.new (S.Reader.pages store.new), answers_by committing result) }
