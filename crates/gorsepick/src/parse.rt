@@ -1,4 +1,6 @@
 // From the text of a scenario to its commands.
+ghost use Rattle.std.specs.Prelude.{◌≡◌, length, OnOk};
+
 use crate::command::{Command, Line, Made, Question, Request};
 use crate::failure::{Failure, Mistake};
 use crate::memory::{Kind, Memory};
@@ -180,7 +182,9 @@ fn numbers<const N: usize>(
     heap: Global,
     words: &[&str],
     usage: &'static str,
-) -> Result<[u32; N], Mistake> {
+) -> Result<[u32; N], Mistake>
+    ensures { OnOk result (length words.now ≡ N) }
+{
     expect(words, N, usage)?;
     // An array's `try_from_fn` and `try_map` would ask each caller to show that an iterator over N words fits in memory.
     let mut numbers = [0; N];
@@ -191,7 +195,9 @@ fn numbers<const N: usize>(
 }
 
 // Exactly so many words follow the command's name.
-fn expect(words: &[&str], count: usize, usage: &'static str) -> Result<(), Mistake> {
+fn expect(words: &[&str], count: usize, usage: &'static str) -> Result<(), Mistake>
+    ensures { OnOk result (length words.now ≡ count) }
+{
     if words.len() == count {
         Ok(())
     } else {
