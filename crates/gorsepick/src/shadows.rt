@@ -25,11 +25,11 @@ fn print_shadow(rt: &impl Print, slot: u32, other: u32, shadow: &Shadow) -> io::
         print!(rt; "  slot {slot}, for slot {other}: ")?;
     }
     print_registers(rt, shadow)?;
-    print_list(rt, "read", shadow.reads(), |read| {
-        print!(rt; "page {} at step {}", read.page, read.step)
+    print_list(rt, "read", shadow.reads(), |before, read| {
+        print!(rt; "{before} page {} at step {}", read.page, read.step)
     })?;
-    print_list(rt, "; wrote", shadow.own(), |write| {
-        print!(rt; "{} to page {}", write.word, write.page)
+    print_list(rt, "; wrote", shadow.own(), |before, write| {
+        print!(rt; "{before} {} to page {}", write.word, write.page)
     })?;
     println!(rt; "")
 }
@@ -45,8 +45,9 @@ fn print_registers(rt: &impl Print, shadow: &Shadow) -> io::Result<()> {
     )
 }
 
-// What a shadow did: each item of the list, or nothing.
-fn print_list<T, F: Fn(&T) -> io::Result<()>>(
+// What a shadow did: each item of the list, or nothing. An item is printed together with what stands before it, since each
+// `print!` is a write of its own.
+fn print_list<T, F: Fn(&str, &T) -> io::Result<()>>(
     rt: &impl Print,
     did: &str,
     items: &[T],
@@ -57,11 +58,9 @@ fn print_list<T, F: Fn(&T) -> io::Result<()>>(
     let [first, rest @ ..] = items else {
         return print!(rt; "{did} nothing");
     };
-    print!(rt; "{did} ")?;
-    print_item(first)?;
+    print_item(did, first)?;
     for item in rest {
-        print!(rt; ", ")?;
-        print_item(item)?;
+        print_item(",", item)?;
     }
     Ok(())
 }
