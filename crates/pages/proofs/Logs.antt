@@ -1,7 +1,7 @@
 -- Laws of the log store's words. Assumes nothing.
 use Rattle.std.proofs.Common.{◌≡◌, ℕ, zero, suc, ◌-◌, ◌+◌, ◌*◌, ◌<◌, ◌≤◌, true, false, ltb, ◌≢◌, Bool, cond, Some, None, ◌⊎◌, List, [], ◌++◌, slice_index, length, get_or, take, drop, set, sym, refl, ap, ◌∙◌, inl, ⊎_elim, zero-add, arith, length-append, length-drop, length-set, length-take, get_or-drop, get_or-set_other, get_or-take, get_or-set_same, drop-set-lt}
 use lib.Seq.{take-set-le, drop-set-add}
-use Rattle.std.proofs.lemmas.List.{set-append_left, set-append_right, get_or_append_left, get_or-append_right, set-set}
+use Rattle.std.proofs.lemmas.List.{set-append_left, set-append_right, get_or_append_left, get_or-append_right}
 use Rattle.std.proofs.lemmas.Bool.{and_parts, and_from, ltb-true, lt-ltb, le-ltb, eq-eqb, eqb-true, leb-true, le-leb, cases_eq, cond-true, cond_both, cond-false, cases_Bool, ltb-false}
 use Rattle.std.specs.Bool.{then_some}
 use Rattle.std.specs.Option.{option_map_or}
@@ -426,25 +426,28 @@ module _ (ws : List ℕ) (h : sound ws ≡ true) where
       let r = ready in
       appended-pages (with_room ws) p w r.fit r.room (omega (arith, r.size)) ∙ ap (λ xs. set xs p w) r.pages
 
-  -- a put, part by part, where there is room and where there is none: of `at` entries in use, and base words `into`
-  module _ (s b p q : List ℕ) (parts : Parts ws s b p q) (page word at : ℕ) (into : List ℕ) where
-    pub put_room : (used ws ≡ capacity ws → ⊥) → at ≡ used ws → into ≡ b → set s 2 (at + 1) ++ (into ++ (set p at page ++ set q at word)) ≡ log_put ws page word
-    put_room ne u whole =
+  -- a put, part by part, where there is room and where there is none: of `at` entries in use, sizes `told`, and base words
+  -- `into`
+  module _ (s b p q : List ℕ) (parts : Parts ws s b p q) (page word at : ℕ) (told into : List ℕ) where
+    pub put_room : (used ws ≡ capacity ws → ⊥) → at ≡ used ws → told ≡ s → into ≡ b → set told 2 (at + 1) ++ (into ++ (set p at page ++ set q at word)) ≡ log_put ws page word
+    put_room ne u sizes whole =
         let within = (sound_facts ws h).within in
-        ap (λ k. set s 2 (k + 1) ++ (into ++ (set p k page ++ set q k word))) u
+        ap (λ xs. set xs 2 (at + 1) ++ (into ++ (set p at page ++ set q at word))) sizes
+        ∙ ap (λ k. set s 2 (k + 1) ++ (into ++ (set p k page ++ set q k word))) u
         ∙ ap (λ xs. set s 2 (used ws + 1) ++ (xs ++ (set p (used ws) page ++ set q (used ws) word))) whole
         ∙ sym (appended-parts ws s b p q h parts page word (omega arith))
         ∙ ap (λ vs. appended vs page word) (kept-room ne)
 
-    pub put_full : used ws ≡ capacity ws → at ≡ 0 → into ≡ carried (slice_index p) (slice_index q) 0 b (length p) → set s 2 (at + 1) ++ (into ++ (set p at page ++ set q at word)) ≡ log_put ws page word
-    put_full full u whole =
+    pub put_full : used ws ≡ capacity ws → at ≡ 0 → told ≡ set s 2 0 → into ≡ carried (slice_index p) (slice_index q) 0 b (length p) → set told 2 (at + 1) ++ (into ++ (set p at page ++ set q at word)) ≡ log_put ws page word
+    put_full full u sizes whole =
         let vs = emptied ws in
+        let s' = set s 2 0 in
         let some = (sound_facts ws h).some in
         let zero_used = emptied-used ws h full in
         let after = emptied-parts ws s b p q h parts full in
-        ap (λ k. set s 2 (k + 1) ++ (into ++ (set p k page ++ set q k word))) (u ∙ sym zero_used)
-        ∙ ap (λ xs. set s 2 (used vs + 1) ++ (xs ++ (set p (used vs) page ++ set q (used vs) word))) (whole ∙ ap (carried (slice_index p) (slice_index q) 0 b) parts.pages)
-        ∙ ap (λ xs. xs ++ (carried (slice_index p) (slice_index q) 0 b (capacity ws) ++ (set p (used vs) page ++ set q (used vs) word))) (sym (set-set s 2 0 (used vs + 1)))
+        ap (λ xs. set xs 2 (at + 1) ++ (into ++ (set p at page ++ set q at word))) sizes
+        ∙ ap (λ k. set s' 2 (k + 1) ++ (into ++ (set p k page ++ set q k word))) (u ∙ sym zero_used)
+        ∙ ap (λ xs. set s' 2 (used vs + 1) ++ (xs ++ (set p (used vs) page ++ set q (used vs) word))) (whole ∙ ap (carried (slice_index p) (slice_index q) 0 b) parts.pages)
         ∙ sym (appended-parts vs _ _ p q (emptied-sound ws h full) after page word (omega (arith, emptied-capacity ws h full)))
         ∙ ap (λ xs. appended xs page word) (made_room full)
 

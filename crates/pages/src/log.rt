@@ -58,7 +58,11 @@ impl Layout {
         if rest.len() != pages + 2 * room {
             return None;
         }
-        are_below(&rest[pages..pages + used as usize], size).then_some(Layout { size, room })
+        // A branch, and no `then_some`: a read or put of a log just made then need not wait for the last number.
+        if !are_below(&rest[pages..pages + used as usize], size) {
+            return None;
+        }
+        Some(Layout { size, room })
     }
 
     // The word of a page: that of the last used entry that names it, else its base word.
@@ -93,6 +97,8 @@ impl Layout {
         if used == self.room {
             carry(base, pages, words);
             used = 0;
+            // Before the entry is written (docs/PAGES.md): until U counts it, no page is another.
+            sizes[2] = 0;
         }
         pages[used] = page;
         words[used] = word;

@@ -31,6 +31,6 @@ returns c =
     let u = used_in ws _ _ _ _ h parts in
     let k = layout-room ws layout fits in
     elim c.if-used-self.branch [
-      | then-used-self w ↦ put_full ws h _ _ _ _ parts _ _ _ _ (omega arith) w.used-is (w.base-is ∙ w.carry.ensures)
-      | else-used-self w ↦ put_room ws h _ _ _ _ parts _ _ _ _ (λ full. w.if-used-self.false (omega arith)) (w.used-is ∙ sym u) w.base-is
+      | then-used-self w ↦ put_full ws h _ _ _ _ parts _ _ _ _ _ (omega arith) w.used-is w.sizes-is (w.base-is ∙ w.carry.ensures)
+      | else-used-self w ↦ put_room ws h _ _ _ _ parts _ _ _ _ _ (λ full. w.if-used-self.false (omega arith)) (w.used-is ∙ sym u) w.sizes-is w.base-is
     ]
