@@ -1,5 +1,5 @@
 // The log store: base words, and a log of entries over them.
-ghost use Rattle.std.specs.Prelude.{◌≡◌, ℕ, ◌+◌, ◌<◌, ◌≤◌, length, slice_index, EachIndex, Some, MatchResult};
+ghost use Rattle.std.specs.Prelude.{◌≡◌, ℕ, ◌+◌, ◌<◌, ◌≤◌, length, slice_index, slice_set, EachIndex, Some, MatchResult};
 ghost use Rattle.pages.specs.Entries.{carried, latest, all_below};
 ghost use Rattle.pages.specs.Log.{entry_page, entry_word, used, layout_of, log_pages, log_few, Latest, log_put};
 ghost use Rattle.pages.specs.Pages.{word_at, fault_at};
@@ -42,6 +42,20 @@ fn carry(base: &mut [u32], pages: &[u32], words: &[u32])
     for (i, &page) in pages.iter().enumerate() {
         base[page as usize] = words[i];
     }
+}
+
+// Carries all entries into the base words, and marks none as used, before one is written (docs/PAGES.md). Not part of the put,
+// where the mark would be left out, since the put writes over it.
+#[inline(never)]
+fn empty(sizes: &mut [u32], base: &mut [u32], pages: &[u32], words: &[u32])
+    requires sizes { 2 < length sizes.old }
+    requires long { length words.now ≡ length pages.now }
+    requires low { EachIndex pages.now (λ i. slice_index pages.now i < length base.old) }
+    ensures sizes { sizes.new ≡ slice_set sizes.old 2 0 }
+    ensures base { base.new ≡ carried (slice_index pages.now) (slice_index words.now) 0 base.old (length pages.now) }
+{
+    carry(base, pages, words);
+    sizes[2] = 0;
 }
 
 impl Layout {
@@ -95,10 +109,8 @@ impl Layout {
         let (pages, words) = entries.split_at_mut(self.room);
         let mut used = sizes[2] as usize;
         if used == self.room {
-            carry(base, pages, words);
+            empty(sizes, base, pages, words);
             used = 0;
-            // Before the entry is written (docs/PAGES.md): until U counts it, no page is another.
-            sizes[2] = 0;
         }
         pages[used] = page;
         words[used] = word;

@@ -4,8 +4,8 @@ use Rattle.pages.proofs.Logs.{sound_facts, split-parts, used_in, page_in, put_ro
 use Rattle.pages.proofs.log.Layout.put.Goals as goal
 use Rattle.pages.proofs.log.Layout.put.Goals.{then-used-self, else-used-self}
 
-pub carry-requires-clause-low : goal.carry-requires-clause-low
-carry-requires-clause-low c = λ i l.
+pub empty-requires-clause-low : goal.empty-requires-clause-low
+empty-requires-clause-low c = λ i l.
     let ws = c.args.words.now in
     let layout = c.args.self in
     let fits = c.requires.fits in
@@ -31,6 +31,6 @@ returns c =
     let u = used_in ws _ _ _ _ h parts in
     let k = layout-room ws layout fits in
     elim c.if-used-self.branch [
-      | then-used-self w ↦ put_full ws h _ _ _ _ parts _ _ _ _ _ (omega arith) w.used-is w.sizes-is (w.base-is ∙ w.carry.ensures)
+      | then-used-self w ↦ put_full ws h _ _ _ _ parts _ _ _ _ _ (omega arith) w.used-is (w.sizes-is ∙ w.empty.ensures.sizes) (w.base-is ∙ w.empty.ensures.base)
       | else-used-self w ↦ put_room ws h _ _ _ _ parts _ _ _ _ _ (λ full. w.if-used-self.false (omega arith)) (w.used-is ∙ sym u) w.sizes-is w.base-is
     ]
