@@ -426,27 +426,29 @@ module _ (ws : List ℕ) (h : sound ws ≡ true) where
       let r = ready in
       appended-pages (with_room ws) p w r.fit r.room (omega (arith, r.size)) ∙ ap (λ xs. set xs p w) r.pages
 
-  -- a put, part by part, where there is room and where there is none: of `at` entries in use, sizes `told`, and base words
-  -- `into`
-  module _ (s b p q : List ℕ) (parts : Parts ws s b p q) (page word at : ℕ) (told into : List ℕ) where
-    pub put_room : (used ws ≡ capacity ws → ⊥) → at ≡ used ws → told ≡ s → into ≡ b → set told 2 (at + 1) ++ (into ++ (set p at page ++ set q at word)) ≡ log_put ws page word
-    put_room ne u sizes whole =
+  -- a put, part by part, where there is room and where there is none: of sizes `told` and base words `into` when the entry is
+  -- written
+  module _ (s b p q : List ℕ) (parts : Parts ws s b p q) (page word : ℕ) (told into : List ℕ) where
+    pub put_room : (used ws ≡ capacity ws → ⊥) → told ≡ s → into ≡ b
+        → set told 2 (get_or told 2 0 + 1) ++ (into ++ (set p (get_or told 2 0) page ++ set q (get_or told 2 0) word)) ≡ log_put ws page word
+    put_room ne sizes whole =
         let within = (sound_facts ws h).within in
-        ap (λ xs. set xs 2 (at + 1) ++ (into ++ (set p at page ++ set q at word))) sizes
-        ∙ ap (λ k. set s 2 (k + 1) ++ (into ++ (set p k page ++ set q k word))) u
+        ap (λ xs. set xs 2 (get_or xs 2 0 + 1) ++ (into ++ (set p (get_or xs 2 0) page ++ set q (get_or xs 2 0) word))) sizes
+        ∙ ap (λ k. set s 2 (k + 1) ++ (into ++ (set p k page ++ set q k word))) (sym (used_in ws s b p q h parts))
         ∙ ap (λ xs. set s 2 (used ws + 1) ++ (xs ++ (set p (used ws) page ++ set q (used ws) word))) whole
         ∙ sym (appended-parts ws s b p q h parts page word (omega arith))
         ∙ ap (λ vs. appended vs page word) (kept-room ne)
 
-    pub put_full : used ws ≡ capacity ws → at ≡ 0 → told ≡ set s 2 0 → into ≡ carried (slice_index p) (slice_index q) 0 b (length p) → set told 2 (at + 1) ++ (into ++ (set p at page ++ set q at word)) ≡ log_put ws page word
-    put_full full u sizes whole =
+    pub put_full : used ws ≡ capacity ws → told ≡ set s 2 0 → into ≡ carried (slice_index p) (slice_index q) 0 b (length p)
+        → set told 2 (get_or told 2 0 + 1) ++ (into ++ (set p (get_or told 2 0) page ++ set q (get_or told 2 0) word)) ≡ log_put ws page word
+    put_full full sizes whole =
         let vs = emptied ws in
         let s' = set s 2 0 in
         let some = (sound_facts ws h).some in
         let zero_used = emptied-used ws h full in
         let after = emptied-parts ws s b p q h parts full in
-        ap (λ xs. set xs 2 (at + 1) ++ (into ++ (set p at page ++ set q at word))) sizes
-        ∙ ap (λ k. set s' 2 (k + 1) ++ (into ++ (set p k page ++ set q k word))) (u ∙ sym zero_used)
+        ap (λ xs. set xs 2 (get_or xs 2 0 + 1) ++ (into ++ (set p (get_or xs 2 0) page ++ set q (get_or xs 2 0) word))) sizes
+        ∙ ap (λ k. set s' 2 (k + 1) ++ (into ++ (set p k page ++ set q k word))) (get_or-set_same s 2 0 0 (omega (arith, parts.sizes)) ∙ sym zero_used)
         ∙ ap (λ xs. set s' 2 (used vs + 1) ++ (xs ++ (set p (used vs) page ++ set q (used vs) word))) (whole ∙ ap (carried (slice_index p) (slice_index q) 0 b) parts.pages)
         ∙ sym (appended-parts vs _ _ p q (emptied-sound ws h full) after page word (omega (arith, emptied-capacity ws h full)))
         ∙ ap (λ xs. appended xs page word) (made_room full)

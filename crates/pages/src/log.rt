@@ -44,8 +44,8 @@ fn carry(base: &mut [u32], pages: &[u32], words: &[u32])
     }
 }
 
-// Carries all entries into the base words, and marks none as used, before one is written (docs/PAGES.md). Not part of the put,
-// where the mark would be left out, since the put writes over it.
+// Carries all entries into the base words, and marks none as used, before one is written (docs/PAGES.md). The put writes over
+// the mark, so a compiler may leave it out: this is not built into the put, and the put reads the mark again.
 #[inline(never)]
 fn empty(sizes: &mut [u32], base: &mut [u32], pages: &[u32], words: &[u32])
     requires sizes { 2 < length sizes.old }
@@ -107,14 +107,13 @@ impl Layout {
         let (sizes, rest) = words.split_at_mut(3);
         let (base, entries) = rest.split_at_mut(self.size as usize);
         let (pages, words) = entries.split_at_mut(self.room);
-        let mut used = sizes[2] as usize;
-        if used == self.room {
+        if sizes[2] as usize == self.room {
             empty(sizes, base, pages, words);
-            used = 0;
         }
+        let used = sizes[2] as usize;
         pages[used] = page;
         words[used] = word;
-        sizes[2] = used as u32 + 1;
+        sizes[2] += 1;
     }
 }
 

@@ -1,8 +1,8 @@
-use Rattle.std.proofs.Common.{◌<◌, sym, ◌∙◌, arith}
+use Rattle.std.proofs.Common.{◌<◌, ◌∙◌, arith}
 use Rattle.pages.specs.Log.{used, capacity}
 use Rattle.pages.proofs.Logs.{sound_facts, split-parts, used_in, page_in, put_room, put_full, layout-sound, layout-room}
 use Rattle.pages.proofs.log.Layout.put.Goals as goal
-use Rattle.pages.proofs.log.Layout.put.Goals.{then-used-self, else-used-self}
+use Rattle.pages.proofs.log.Layout.put.Goals.{then-sizes-self, else-sizes-self}
 
 pub empty-requires-clause-low : goal.empty-requires-clause-low
 empty-requires-clause-low c = λ i l.
@@ -30,7 +30,7 @@ returns c =
     let h = layout-sound ws layout fits in
     let u = used_in ws _ _ _ _ h parts in
     let k = layout-room ws layout fits in
-    elim c.if-used-self.branch [
-      | then-used-self w ↦ put_full ws h _ _ _ _ parts _ _ _ _ _ (omega arith) w.used-is (w.sizes-is ∙ w.empty.ensures.sizes) (w.base-is ∙ w.empty.ensures.base)
-      | else-used-self w ↦ put_room ws h _ _ _ _ parts _ _ _ _ _ (λ full. w.if-used-self.false (omega arith)) (w.used-is ∙ sym u) w.sizes-is w.base-is
+    elim c.if-sizes-self.branch [
+      | then-sizes-self w ↦ put_full ws h _ _ _ _ parts _ _ _ _ (omega arith) (w.sizes-is ∙ w.empty.ensures.sizes) (w.base-is ∙ w.empty.ensures.base)
+      | else-sizes-self w ↦ put_room ws h _ _ _ _ parts _ _ _ _ (λ full. w.if-sizes-self.false (omega arith)) w.sizes-is w.base-is
     ]
